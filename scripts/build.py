@@ -33,7 +33,7 @@ it asks for no more files.
 The last line on standard error has the number of units, of units with a fault, of files, and the seconds."""
 FACTS = {"inline": False, "budget": None, "date": None, "time": None, "root": "/"}
 # definitions that the profile gnu alone takes
-GNU_ALONE = "__has_include", "__STDC_VERSION__"
+GNU_ALONE = (*HAS_INCLUDE, "__STDC_VERSION__")
 DEPENDENCY = re.compile(rb"\ndep (\d+) ")
 
 
@@ -84,7 +84,7 @@ class CompilerAdditions(Additions):
 
     def definitions(self, command):
         answer = self.compilers.answer(command)
-        found = dict(answer.definitions() if answer else {"__has_include": HAS_INCLUDE})
+        found = dict(answer.definitions() if answer else HAS_INCLUDE)
         for name in self.left_out:
             found.pop(name, None)
         return {**found, **self.texts}

@@ -25,7 +25,8 @@ OPERATORS = ("has_attribute", "has_builtin", "has_c_attribute", "has_cpp_attribu
 # names that a list may not define; the profile gnu allows `__STDC_VERSION__`
 KEPT = {"__FILE__", "__LINE__", "__DATE__", "__TIME__", "__STDC__", "defined", "__VA_ARGS__", "__VA_OPT__"}
 MACRO = re.compile(r"#define ([A-Za-z_$][\w$]*(?:\([^()]*\))?(?: .*)?)")
-HAS_INCLUDE = "__has_include __has_include"
+# the operators are no macros for cppunits, but headers test them by `#ifdef`
+HAS_INCLUDE = {name: "%s %s" % (name, name) for name in ("__has_include", "__has_include_next")}
 
 
 class Limit:
@@ -60,7 +61,7 @@ class Answer:
     def definitions(self):
         """Returns all definitions by name, with those of the operators."""
         if self.whole is None:
-            self.whole = {**self.macros, **{defined_name(text): text for text in (HAS_INCLUDE, *self.of_operators())}}
+            self.whole = {**self.macros, **HAS_INCLUDE, **{defined_name(text): text for text in self.of_operators()}}
         return self.whole
 
     def of_operators(self):

@@ -9,11 +9,7 @@ COMMENT = rb"/\*[^*]*\*+(?:[^/*][^*]*\*+)*/"
 BLANK = rb"(?:[ \t\v\f\r]|" + COMMENT + rb")*"
 INCLUDE = re.compile(rb"[#%]:?" + BLANK + rb"include(_next)?(?![\w$])" + BLANK
                      + rb"(?:\"([^\"\n]+)\"|<([^>\n]+)>|([A-Za-z_$\\\x80-\xff][\w$\\\x80-\xff]*))")
-ASKED = re.compile(rb"\b__has_include" + BLANK + rb"\(" + BLANK + rb"(?:\"([^\"\n]+)\"|<([^>\n]+)>)")
-NEXT = re.compile(rb"\b__has_include_next" + BLANK + rb"\(" + BLANK + rb"(?:\"([^\"\n]+)\"|<([^>\n]+)>)")
-# the beginning of a condition that is false if none of some names is a macro
-OTHERS = re.compile(rb"[ \t]*#[ \t]*(?:el)?if[ \t]*\(?[ \t]*(defined[ \t]*\(?[ \t]*_\w+[ \t]*\)?"
-                    rb"(?:[ \t]*\|\|[ \t]*defined[ \t]*\(?[ \t]*_\w+[ \t]*\)?)*)[ \t]*\)?[ \t]*&&(?![^\n]*\|\|)")
+ASKED = re.compile(rb"\b__has_include(?:_next)?" + BLANK + rb"\(" + BLANK + rb"(?:\"([^\"\n]+)\"|<([^>\n]+)>)")
 # names that a compiler's operators may be asked for: in calls of a macro whose name ends like an operator's, and in all calls in a condition
 OPERATOR = re.compile(rb"has_(?:attribute|c_attribute|cpp_attribute|builtin|feature|extension)[ \t]*\([ \t]*([A-Za-z_]\w*)[ \t]*\)", re.IGNORECASE)
 CONDITION = re.compile(rb"#[ \t]*(?:el)?if\b([^\n]*)")
@@ -29,12 +25,12 @@ QUOTE, ANGLE, COMPUTED, EACH = "quote", "angle", "computed", "each"
 class Files:
     """Holds what is on disk; looks at each file and directory once.
 
-    With the profile gnu, `#include_next` and `__has_include` count, too.  With `every`, a name stands for each file that it may be, and a
+    With the profile gnu, `#include_next`, `__has_include` and `__has_include_next` count, too.  With `every`, a name stands for each file that it may be, and a
     name that a macro makes is looked up in `settled`; otherwise a name is the first file found, and a macro's name may be any header."""
 
     def __init__(self, report, gnu, every=False):
         self.report, self.gnu, self.every = report, gnu, every
-        self.lines, self.there, self.below, self.operators, self.nexts = {}, {}, {}, {}, {}
+        self.lines, self.there, self.below, self.operators = {}, {}, {}, {}
         self.missing, self.settled, self.shadows, self.defines, self.trigraphs = set(), {}, {}, {}, {}
 
     def is_file(self, path):
@@ -55,8 +51,6 @@ class Files:
                 found += [(EACH, os.fsdecode(asked[1] or asked[2])) for asked in ASKED.finditer(text)]
             self.lines[path] = unique(found)
             self.operators[path] = operators_in(text)
-            if self.gnu and b"__has_include_next" in text:
-                self.nexts[path] = unique((os.fsdecode(asked[1] or asked[2]), names_before(text, asked.start())) for asked in NEXT.finditer(text))
         return self.lines[path]
 
     def say_trigraphs(self, paths):
@@ -82,21 +76,6 @@ class Files:
                 self.defines[path, word] = {os.fsdecode(name) for name in word.findall(text)} if any(name in text for name in words) else set()
             found |= self.defines[path, word]
         return found
-
-    def next_answers(self, paths, search, defined):
-        """Returns the values that `__has_include_next` has in these files: whether a directory after the file's has the name.
-
-        The value is None for a file that is in no directory of the search.  Questions that are asked only on other systems, under names that
-        aren't in `defined`, don't count."""
-        answers = set()
-        for path in paths:
-            for name, others in self.nexts.get(path, ()):
-                if others and not others & defined:
-                    continue
-                folder = os.path.dirname(path)
-                later = search[search.index(folder) + 1:] if folder in search else ()
-                answers.add(any(self.is_file(joined(folder, name)) for folder in later) if folder in search else None)
-        return answers
 
     def headers(self, folder):
         """Returns every header in a directory and below it, without hidden directories."""
@@ -274,14 +253,6 @@ def form_and_name(found, gnu):
     if quoted is not None:
         return QUOTE, os.fsdecode(quoted)
     return (ANGLE, os.fsdecode(angled)) if angled is not None else (COMPUTED, os.fsdecode(macro))
-
-
-def names_before(text, start):
-    """Returns the names of which one must be a macro for this place in a condition to matter; none if it always may."""
-    found = OTHERS.match(text, text.rfind(b"\n", 0, start) + 1)
-    if found is None or found.end() > start:
-        return frozenset()
-    return frozenset(name.decode("latin-1") for name in re.findall(rb"defined[ \t]*\(?[ \t]*(\w+)", found[1]))
 
 
 def uncommented(found):

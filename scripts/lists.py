@@ -31,11 +31,9 @@ class Builder:
     def __init__(self, asked, report, additions, every=False):
         self.asked, self.report, self.additions = asked, report, additions
         self.files = Files(report, asked.profile == "gnu", every)
-        self.made, self.root, self.paths, self.computing, self.searches, self.nexts = {}, None, [], set(), {}, {}
+        self.made, self.root, self.paths, self.computing, self.searches = {}, None, [], set(), {}
         # by search: the names of its directories below the root
         self.folders = {}
-        # units whose files may disagree about `__has_include_next`, and the value that was assumed for those that were run
-        self.several, self.taken = [], {}
 
     def build(self, all_commands):
         """Returns the rows of all gathered files, and these commands with their units."""
@@ -53,7 +51,7 @@ class Builder:
 
     def gather(self, all_commands):
         """Finds all files that the units reach, each once; `computing` gets the units that reach an include line whose name a macro makes."""
-        groups, reached, self.several = {}, {}, []
+        groups, reached = {}, {}
         for command in all_commands:
             groups.setdefault(self.search(command), []).append(command)
         self.computing = set()
@@ -65,7 +63,6 @@ class Builder:
                 self.files.say_trigraphs(self.reached([command for command in members if command.trigraphs], lookup))
             if self.files.every:
                 self.computing.update(self.computing_of(members, found, lookup))
-                self.note_next(members, found, lookup)
         self.files.say_shadows(reached)
         self.paths = list(reached)
 
@@ -87,29 +84,9 @@ class Builder:
         """Returns a unit's file, and the files that -include names."""
         return [command.file, *(path for word in command.includes if (path := self.first_of(command, word)) is not None)]
 
-    def note_next(self, members, found, lookup):
-        """Records the value of `__has_include_next` for units over one search; if files differ, for each unit by itself."""
-        if not self.files.nexts:
-            return
-        search = lookup.search
-        answers = self.files.next_answers(found, search, set().union(*map(self.macros, members)))
-        for command in members:
-            if len(answers) > 1:
-                own = self.files.next_answers(self.files.reach(self.starts(command), lookup), search, self.macros(command))
-            else:
-                own = answers
-            self.nexts[command] = next(iter(own)) if len(own) == 1 else self.taken.get(command)
-            if len(own) > 1 or command in self.computing:
-                # a name that a macro makes may stand for any file on the list
-                self.several.append(command)
-
     def macros(self, command):
         """Returns the names that a unit's definitions define."""
         return {*self.additions.definitions(command), *command.definitions}
-
-    def take_next(self, command, answer):
-        """Assumes a value of `__has_include_next` for a unit whose files may disagree; None defines no value."""
-        self.nexts[command] = self.taken[command] = answer
 
     def search(self, command):
         """Returns a command's directories, and how many of them are for names in quotes only."""
@@ -159,8 +136,6 @@ class Builder:
     def defined(self, command):
         """Returns a command's definitions; before them the ones for all units, without names that the command itself defines or undefines."""
         added = self.additions.definitions(command)
-        if self.nexts.get(command) is not None:
-            added = {"__has_include_next": "__has_include_next(x) %d" % self.nexts[command], **added}
         return [text for name, text in added.items() if name not in command.named] + list(command.definitions.values())
 
     def folder(self, path):

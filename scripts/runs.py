@@ -90,7 +90,6 @@ def gather_all(builder, all_commands, program, ask=lambda: None, progress=lambda
     def gather():
         builder.gather(all_commands)
         ask()
-        decide(builder, program)
 
     gather()
     waiting = [command for command in all_commands if command in builder.computing]
@@ -116,24 +115,6 @@ def run_units(builder, some_commands, program):
         program.run("deps", listed, builder.root, output)
     for unit, (command, _) in zip(units(path), pairs):
         yield command, [names[int(line.split(b" ", 2)[1])] for line in unit.lines], unit.fault, names
-
-
-def decide(builder, program):
-    """Decides the value of `__has_include_next` for a unit if the files that it may open disagree: the value in the files that it does open.
-
-    A unit is run with a value.  If a file that it opens has the other value, the unit is run with that one.  If a file still disagrees, the
-    unit has no value."""
-    waiting = builder.several
-    for command in waiting:
-        builder.take_next(command, builder.taken.get(command) is not False)
-    for last in (False, True):
-        differing = []
-        for command, opened, _, _ in run_units(builder, waiting, program) if waiting else ():
-            if builder.files.next_answers(opened, builder.search(command)[0], builder.macros(command)) - {builder.taken[command]}:
-                differing.append(command)
-        for command in differing:
-            builder.take_next(command, None if last else not builder.taken[command])
-        waiting = differing
 
 
 def asking_units(builder, waiting, program):

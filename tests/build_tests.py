@@ -269,25 +269,15 @@ class Lists(Builds):
         self.assertEqual(messages[0], "build.py: %s/a.c: <h.h> is found in an -iquote directory, as %s/q/h.h" % (self.top, self.top))
 
     def test_whether_there_is_a_next_file(self):
-        """Tests the way in which clang's headers ask: a definition has the answer if it is the same for all files that a unit opens."""
+        """Tests the way in which clang's headers ask: files that a unit opens have different answers."""
         asks = "#if 1 && __has_include_next(<%s.h>)\n#include_next <%s.h>\n#endif\n%s\n"
-        write(self.top, {"a.c": "#include <h.h>\n", "b.c": "#include <k.h>\n", "c.c": "#include <h.h>\n#include <k.h>\n", "two/h.h": "two\n",
-                         **{"one/%s.h" % name: asks % (name, name, name) for name in "hk"}})
-        commands = [("gcc -Ione -Itwo -c %s.c" % name, "%s.c" % name) for name in "ab"]
-        self.assertEqual(self.names(commands)[0], [["two", "h"], ["k"]])
-        self.names([("gcc -Ione -Itwo -c c.c", "c.c")], status=1)
-        write(self.top, {"%s.c" % name: "#include NAMED\n#if 0\n#include <%s.h>\n#endif\n" % other for name, other in ("dk", "eh")})
-        write(self.top, {"both.h": "#include <h.h>\n#include <k.h>\n"})
-        commands = [("gcc -Ione -Itwo '-DNAMED=<%s.h>' -c %s.c" % (name, file), "%s.c" % file) for name, file in ("hd", "ke")]
-        self.assertEqual(self.names(commands)[0], [["two", "h"], ["k"]])
-        self.names([("gcc -I. -Ione -Itwo '-DNAMED=<both.h>' -c d.c", "d.c")], status=1)
+        write(self.top, {"a.c": "#include <h.h>\n#include <k.h>\n", "two/h.h": "two\n", **{"one/%s.h" % name: asks % (name, name, name) for name in "hk"}})
+        self.check(["gcc -Ione -Itwo -c a.c"], [["two", "h", "k"]], ["a.c", "one/h.h", "one/k.h", "two/h.h"])
 
-    def test_what_is_asked_of_a_next_file_for_other_systems_alone(self):
-        asks = "#if (defined(__OTHER__) || defined _ELSE) && __has_include_next(<k.h>)\nno\n#endif\nk\n"
-        write(self.top, {"a.c": "#include <h.h>\n#include <k.h>\n", "two/h.h": "two\n", "one/k.h": asks,
-                         "one/h.h": "#if __has_include_next(<h.h>)\n#include_next <h.h>\n#endif\n"})
-        self.assertEqual(self.names(["gcc -Ione -Itwo -c a.c"])[0], [["two", "k"]])
-        self.names(["gcc -D_ELSE -Ione -Itwo -c a.c"], status=1)
+    def test_a_file_that_is_asked_for_alone(self):
+        """Wants a file on the list that no include line names, so that its operator is 1."""
+        write(self.top, {"a.c": "#include <h.h>\n", "one/h.h": "#if __has_include_next(<k.h>)\nk\n#endif\n", "two/k.h": ""})
+        self.check(["gcc -Ione -Itwo -c a.c"], [["k"]], ["a.c", "one/h.h", "two/k.h"])
 
     def test_names_that_macros_make(self):
         """Finds more in each round; lists no directory as a whole, and takes no comment for an include line."""

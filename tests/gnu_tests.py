@@ -1,6 +1,6 @@
 #!/usr/bin/env python3
 """Tests rows of the profile gnu by the program's output: variadic macros, wrapper headers, `__COUNTER__` and pushed macros as in gcc's manual,
-directives among the arguments of a macro, and `__has_include`.
+directives among the arguments of a macro, the operands of pragmas, and `__has_include` and `__has_include_next`.
 
     tests/gnu_tests.py [PROGRAM] [-k NAME]
 
@@ -72,6 +72,14 @@ TEXTS = [
     ("#define W(x) __has_include(x)\n#if W(\"a.c\")\n#endif\n", "| 0 | 23 0:2:1"),
     ("__has_include(\"a.c\")\n", "__has_include ( \"a.c\" ) | 0 | ok"),
     ("#if 0\n#elif __has_include(\"a.c\")\n1\n#endif\n", "1 | 0 | ok"),
+    ("#define K k.h\n#if __has_include(K)\n#endif\n", "| 0 | 30 0:2:1"),
+    ("#if __has_include()\n#endif\n", "| 0 | 30 0:1:1"),
+    ("#define Q(x) \"a.c\"\n#if __has_include(Q(x)\n#endif\n", "| 0 | 30 0:2:1"),
+    ("#define Q(x) \"a.c\"\n#if __has_include(Q)\n#endif\n", "| 0 | 30 0:2:1"),
+    ("#define Q(x) \"a.c\"\n#if __has_include(Q())\n1\n#endif\n#if __has_include(Q(,))\n#endif\n", "1 | 0 | 18 0:5:19 Q"),
+    ("#define P(x) <x##x>\n#define N(x) P(x)\n#if __has_include(N(__COUNTER__)) || __has_include(N(__COUNTER__))\n#endif\n__COUNTER__\n", "2 | 0 | ok"),
+    ("#if __has_include_next\n#else\n1\n#endif\n", "1 | 0 | ok"),
+    ("__has_include_next(\"h.h\")\n", "__has_include_next ( \"h.h\" ) | 0 | ok"),
     # `__STDC_VERSION__`
     ("__STDC_VERSION__\n#undef __STDC_VERSION__\n__STDC_VERSION__\n", "201112L __STDC_VERSION__ | 0 | ok"),
     ("#undef __STDC__\n", "| 0 | 10 0:1:1 __STDC__"),
@@ -110,6 +118,18 @@ TEXTS = [
     ("#define X 1\n#pragma push_macro(\"X\")\n#define X 2\n#if 0\n#pragma pop_macro(\"X\")\n#endif\nX\n", "pragma@0:2:1[ push_macro ( \"X\" ) ] 2 | 0 | ok"),
     ("#define X 1\n#pragma push_macro(\"X \")\n#undef X\n#pragma pop_macro(\"X \")\nX\n#pragma push_macro(\"\")\n#pragma pop_macro(\"1\")\n", "pragma@0:2:1[ push_macro ( \"X \" ) ] pragma@0:4:1[ pop_macro ( \"X \" ) ] X pragma@0:6:1[ push_macro ( \"\" ) ] pragma@0:7:1[ pop_macro ( \"1\" ) ] | 0 | ok"),
     ("#define X 1\n_Pragma(\"push_macro(\\\"X\\\")\")\n#define X 2\n_Pragma(\"pop_macro(\\\"X\\\")\")\nX\n", "_Pragma ( \"push_macro(\\\"X\\\")\" ) _Pragma ( \"pop_macro(\\\"X\\\")\" ) 2 | 0 | ok"),
+    # macros in the operands of pragmas
+    ("#define N 4\n#define f(x) [x]\n#pragma message N  f( N )N\n", "pragma@0:3:1[ message 4 [ 4 ] 4 ] | 0 | ok"),
+    ("#define N 4\n#pragma redefine_extname N M\n", "pragma@0:2:1[ redefine_extname 4 M ] | 0 | ok"),
+    ("#define N 4\n#pragma omp for num_threads(N)\n#pragma acc N\n", "pragma@0:2:1[ omp for num_threads ( N ) ] pragma@0:3:1[ acc N ] | 0 | ok"),
+    ("#define N 4\n#define _OPENMP 1\n#pragma omp for num_threads(N)\n#pragma acc N\n", "pragma@0:3:1[ omp for num_threads ( 4 ) ] pragma@0:4:1[ acc N ] | 0 | ok"),
+    ("#define N 4\n#define _OPENACC 1\n#pragma omp N\n#pragma acc N\n", "pragma@0:3:1[ omp N ] pragma@0:4:1[ acc 4 ] | 0 | ok"),
+    ("#define N 4\n#pragma message\n#pragma N N\n#pragma GCC message N\n#pragma\n", "pragma@0:2:1[ message ] pragma@0:3:1[ N N ] pragma@0:4:1[ GCC message N ] pragma@0:5:1[ ] | 0 | ok"),
+    ("#define message N\n#define N 4\n#pragma message message\n", "pragma@0:3:1[ message 4 ] | 0 | ok"),
+    ("#pragma message __COUNTER__ __COUNTER__\n__COUNTER__\n", "pragma@0:1:1[ message 0 1 ] 2 | 0 | ok"),
+    ("#define f(x) [x]\na\n#pragma message b f(1\n)\n", "a | 0 | 17 0:3:19 f"),
+    ("#pragma message '\n", "| 0 | 7 0:1:17 '"),
+    ("#define f(x, y) x ## y\n#pragma message f(+, x)\n", "| 0 | 19 0:2:17 +x"),
     ("#define X 1\n#define f(x) [x]\n#pragma push_macro(\"X\")\n#define X 2\nX f(X\n#pragma pop_macro(\"X\")\nX)\n", "pragma@0:3:1[ push_macro ( \"X\" ) ] 2 pragma@0:6:1[ pop_macro ( \"X\" ) ] [ 1 1 ] | 0 | ok"),
     ("#define f(x) [x]\nf(1\n#pragma push_macro(\"f\")\n2)\n#define f 3\n#pragma pop_macro(\"f\")\nf(4)\n", "pragma@0:3:1[ push_macro ( \"f\" ) ] [ 1 2 ] pragma@0:6:1[ pop_macro ( \"f\" ) ] [ 4 ] | 0 | ok"),
     ("#define f(x) [x]\n#pragma push_macro(\"f\")\nf(1\n#pragma pop_macro(\"f\")\n2)\n", "pragma@0:2:1[ push_macro ( \"f\" ) ] | 0 | 17 0:3:1 f"),
@@ -189,6 +209,7 @@ OTHERS = [
     ("later", "#define f(x) [x]\nf(1\n#define Q\n)\n", "| 0 | 17 0:2:1 f"),
     ("c11", "#define f(x) [x]\nf(1\n#define Q\n)\n", "| 0 | 17 0:2:1 f"),
     ("later", "#if __has_include(\"a.c\")\n1\n#endif\n", "| 0 | 23 0:1:1"),
+    ("later", "#if __has_include_next(\"a.c\")\n#endif\n", "| 0 | 23 0:1:1"),
     ("later", "__COUNTER__\n#ifdef __COUNTER__\n1\n#endif\n", "__COUNTER__ | 0 | ok"),
     ("c11", "#define f(a) a\n#define g(a) a\n#define sw(a, b) b a\nsw(f(1,2), g(1,2))\n", "| 0 | 18 0:4:4 f"),
     ("later", "#define f(a) a\n#define g(a) a\n#define sw(a, b) b a\nsw(f(1,2), g(1,2))\n", "| 0 | 18 0:4:4 f"),
@@ -307,6 +328,44 @@ LISTS = [
     ([
         ("a.c", "#if __has_include(\"a.c\")\n1\n#endif\n"),
     ], {}, {"budget": 1}, "1 | 0 | ok"),
+    ([
+        ("a.c", "#define K <k.h>\n#if __has_include(K)\n1\n#endif\n#define J \"j.h\"\n#if __has_include(J)\n2\n#endif\n"),
+        ("inc/k.h", ""),
+    ], {"search": ["inc"]}, {}, "1 | 0 | ok"),
+    ([
+        ("a.c", "#define Q(x) <x>\n#if __has_include(Q(k.h)) && !__has_include( Q(j.h) )\n1\n#endif\n"),
+        ("inc/k.h", ""),
+    ], {"search": ["inc"]}, {}, "1 | 0 | ok"),
+    ([
+        ("a.c", "#define K \"a.c\"\n#if __has_include(K)\n1\n#endif\n"),
+    ], {}, {"budget": 2}, "1 | 0 | ok"),
+    ([
+        ("a.c", "#define K \"a.c\"\n#if __has_include(K)\n1\n#endif\n"),
+    ], {}, {"budget": 1}, "| 0 | 35 0:2:19"),
+    # `__has_include_next`
+    ([
+        ("a.c", "#include <h.h>\n"),
+        ("one/h.h", "#if __has_include_next(<h.h>)\n1\n#include_next <h.h>\n#endif\n"),
+        ("two/h.h", "#if __has_include_next(\"h.h\")\n2\n#else\n3\n#endif\n"),
+    ], {"search": ["one", "two"]}, {}, "1 3 | 0 1 2 | ok"),
+    ([
+        ("a.c", "#include <h.h>\n"),
+        ("one/h.h", "#if __has_include(\"k.h\") && !__has_include_next(\"k.h\")\n1\n#endif\n"),
+        ("one/k.h", ""),
+    ], {"search": ["one"]}, {}, "1 | 0 1 | ok"),
+    ([
+        ("a.c", "#include <h.h>\n"),
+        ("one/h.h", "#define K \"k.h\"\n#if !__has_include_next(K) && __has_include(K)\n1\n#endif\n"),
+        ("one/k.h", ""),
+    ], {"search": ["one"]}, {}, "1 | 0 1 | ok"),
+    ([
+        ("a.c", "#if __has_include_next(\"h.h\")\n1\n#endif\n"),
+        ("h.h", ""),
+    ], {}, {}, "1 | 0 | ok"),
+    ([
+        ("a.c", "#if __has_include_next(\"h.h\")\n1\n#endif\n"),
+        ("h.h", ""),
+    ], {"define": ["__has_include_next(x) 0"]}, {}, "1 | 0 | ok"),
     # macros that are pushed and popped
     ([
         ("a.c", "#define X 1\n#include \"h.h\"\nX\n#include \"k.h\"\nX\n"),
@@ -323,6 +382,19 @@ LISTS = [
     ([
         ("a.c", "#define X 1\n#pragma push_macro(\"X\")\n#pragma pop_macro(\"X\")\nX\n"),
     ], {}, {"budget": 2}, "pragma@0:2:1[ push_macro ( \"X\" ) ] pragma@0:3:1[ pop_macro ( \"X\" ) ] 1 | 0 | ok"),
+    # macros in the operands of pragmas
+    ([
+        ("a.c", "#pragma omp N\n"),
+    ], {"define": ["N 4", "_OPENMP 201511"]}, {}, "pragma@0:1:1[ omp 4 ] | 0 | ok"),
+    ([
+        ("a.c", "#define N 4\n#pragma message N N\n"),
+    ], {}, {"budget": 2}, "| 0 | 35 0:2:19"),
+    ([
+        ("a.c", "#define N 4\n#pragma message N\n"),
+    ], {}, {"profile": "later"}, "pragma@0:2:1[ message N ] | 0 | ok"),
+    ([
+        ("a.c", "#define N 4\n#pragma message N\n"),
+    ], {}, {"profile": "c11"}, "pragma@0:2:1[ message N ] | 0 | ok"),
     # directives among the arguments of a macro
     ([
         ("a.c", "#define f(x) [x]\na f(1\n#include \"h.h\"\n)\n"),

@@ -308,15 +308,16 @@ fn expanded_open<'x>(
 /// Asserts that the last token closes an invocation that is open before it.
 fn assert_closed_later<'x>(
     rt: &impl Abort,
+    alloc: Global,
     table: &Table<'x>,
     tokens: &'x [Token],
-    scratch: &mut Scratch<'x>,
 ) -> Result<(), Memory> {
+    let mut scratch = Scratch::new(alloc, table.hashing())?;
     let mut list = scratch.list();
     for token in tokens.iter().take(tokens.len().saturating_sub(1)) {
         list.push_borrowed(token)?;
     }
-    let mut list = expanded_open(rt, table, list, scratch, (".a", 17))?;
+    let mut list = expanded_open(rt, table, list, &mut scratch, (".a", 17))?;
     assert!(rt;
         list.first()
             .is_some_and(|first| first.text() == b"f".as_slice())
@@ -324,7 +325,7 @@ fn assert_closed_later<'x>(
     for token in tokens.iter().rev().take(1) {
         list.push_borrowed(token)?;
     }
-    let rest = expanded_open(rt, table, list, scratch, (".[.1.b.]", 0))?;
+    let rest = expanded_open(rt, table, list, &mut scratch, (".[.1.b.]", 0))?;
     assert!(rt; rest.is_empty() && rest.first().is_none());
     Ok(())
 }
@@ -335,8 +336,7 @@ fn closes_an_open_invocation_later(rt: HostRuntime) -> Result<(), Fail> {
     let source = source_of(&rt, rt.alloc(), text.as_slice())?;
     let mut table = Table::new(rt.alloc())?;
     let tokens = directed(&rt, rt.alloc(), &mut table, &source)?;
-    let mut scratch = Scratch::new(rt.alloc(), table.hashing())?;
-    assert_closed_later(&rt, &table, tokens, &mut scratch)?;
+    assert_closed_later(&rt, rt.alloc(), &table, tokens)?;
     Ok(())
 }
 
@@ -365,18 +365,19 @@ fn waiting_twice<'x>(
 /// Asserts that an invocation in itself stays open after the first of two last tokens `)`, and not after the other.
 fn assert_stays_open<'x>(
     rt: &impl Abort,
+    alloc: Global,
     table: &Table<'x>,
     tokens: &'x [Token],
-    scratch: &mut Scratch<'x>,
 ) -> Result<(), Memory> {
+    let mut scratch = Scratch::new(alloc, table.hashing())?;
     let (invocation, close) = tokens.split_at(tokens.len().saturating_sub(1));
-    let mut waiting = waiting_twice(rt, table, invocation, scratch)?;
+    let mut waiting = waiting_twice(rt, table, invocation, &mut scratch)?;
     for stays in [true, false] {
         assert!(rt; waiting.append_if_open(table, close)? == stays);
     }
     let mut list = waiting.into_list();
     list.push_all_borrowed(close)?;
-    let rest = expanded_open(rt, table, list, scratch, (".[.1.b.[.1.b.].]", 0))?;
+    let rest = expanded_open(rt, table, list, &mut scratch, (".[.1.b.[.1.b.].]", 0))?;
     assert!(rt; rest.is_empty());
     Ok(())
 }
@@ -387,21 +388,21 @@ fn keeps_an_invocation_waiting(rt: HostRuntime) -> Result<(), Fail> {
     let source = source_of(&rt, rt.alloc(), text.as_slice())?;
     let mut table = Table::new(rt.alloc())?;
     let tokens = directed(&rt, rt.alloc(), &mut table, &source)?;
-    let mut scratch = Scratch::new(rt.alloc(), table.hashing())?;
-    assert_stays_open(&rt, &table, tokens, &mut scratch)?;
+    assert_stays_open(&rt, rt.alloc(), &table, tokens)?;
     Ok(())
 }
 
 /// Asserts that the expansion of all tokens of a file ends in fault 17, and leaves nothing open.
 fn assert_nothing_open<'x>(
     rt: &impl Abort,
+    alloc: Global,
     table: &Table<'x>,
     tokens: &'x [Token],
-    scratch: &mut Scratch<'x>,
 ) -> Result<(), Memory> {
+    let mut scratch = Scratch::new(alloc, table.hashing())?;
     let mut list = scratch.list();
     list.push_all_borrowed(tokens)?;
-    let rest = expanded_open(rt, table, list, scratch, (".a", 17))?;
+    let rest = expanded_open(rt, table, list, &mut scratch, (".a", 17))?;
     assert!(rt; rest.is_empty());
     Ok(())
 }
@@ -412,7 +413,6 @@ fn leaves_no_invocation_of_a_replacement_open(rt: HostRuntime) -> Result<(), Fai
     let source = source_of(&rt, rt.alloc(), text.as_slice())?;
     let mut table = Table::new(rt.alloc())?;
     let tokens = directed(&rt, rt.alloc(), &mut table, &source)?;
-    let mut scratch = Scratch::new(rt.alloc(), table.hashing())?;
-    assert_nothing_open(&rt, &table, tokens, &mut scratch)?;
+    assert_nothing_open(&rt, rt.alloc(), &table, tokens)?;
     Ok(())
 }

@@ -1,10 +1,11 @@
 -- The budget is the count of phase 4 plus the remaining budget.
-use Rattle.std.proofs.Common.{◌≡◌, ℕ, zero, suc, ◌+◌, ◌-◌, List, Bool, true, false, Option, Some, None, Result, Ok, Err, refl, sym, ap, ◌∙◌, arith}
+use Rattle.std.proofs.Common.{take, drop, codes, ◌≡◌, ℕ, zero, suc, ◌+◌, ◌-◌, List, Bool, true, false, Option, Some, None, Result, Ok, Err, refl, sym, ap, ◌∙◌, arith}
 use Rattle.pptext.specs.declared.tokens.Place.{Place}
 use Rattle.pptext.specs.declared.tokens.Token.{Token}
 use Rattle.pptext.specs.declared.tokens.Fault.{Fault}
 use Rattle.pptext.specs.declared.sources.Directive.{Directive}
 use Rattle.pptext.specs.declared.sources.Profile.{Profile}
+use Rattle.pptext.specs.Profiles.{is_gnu}
 use Rattle.pptext.specs.Lines.{LogicalLine}
 use Rattle.pptext.specs.Tree.{GroupParts, Branches}
 use Rattle.ppexpand.specs.declared.meter.Meter.{Meter}
@@ -19,11 +20,13 @@ use Rattle.ppunit.specs.declared.units.Setting.{Setting}
 use Rattle.ppunit.specs.declared.units.UnitOut.{UnitOut}
 use Rattle.ppunit.specs.States.{State, Context, Progress, Search}
 use Rattle.ppunit.specs.DirectiveLines.{operands, text_tokens}
-use Rattle.ppunit.specs.Including.{IncludeName, begins_with_header}
-use Rattle.ppunit.specs.Conditions.{Decides}
+use Rattle.ppunit.specs.Including.{IncludeName, begins_with_header, name_of_header, name_of_expansion}
+use Rattle.ppunit.specs.Probing.{begins_with, NamesOperand, Probes, ProbesBy, ProbesLine}
+use Rattle.ppunit.specs.Conditions.{DecidesByValue, Decides}
 use Rattle.ppunit.specs.Directives.{EmitsText, NamesHeaderBy, NamesHeader, ExecutesDirective}
 use Rattle.ppunit.specs.Group.{ExecutesGroup, ExecutesBranches, ExecutesControlLine, ExecutesInclude, OpensFile}
-use Rattle.ppunit.specs.Counts.{counted_before, count_decides, count_names_header_by, count_names_header, count_control_by, count_group, count_branches, count_control, count_includes, count_opening}
+use Rattle.ppunit.specs.Counts.{counted_before, count_decides, count_names_header_by, count_names_header, count_names_operand, count_probes, count_probes_by}
+use Rattle.ppunit.specs.Counts.{count_probes_line, count_value, count_control_by, count_group, count_branches, count_control, count_includes, count_opening}
 use Rattle.ppunit.specs.Unit.{Defines, unread, processed, Translates, definitions_fault, translated, IsUnit, count, count_defines, count_translates}
 use Rattle.ppunit.specs.Capped.{AtMost}
 use Rattle.ppunit.specs.code.Effects.{HasEffect}
@@ -60,21 +63,53 @@ pays_then meter meter_after n e more =
 
 -- ---- lines
 
-pub asks_by_spends : (header : Bool) (s : State) (line : List Token) (meter_after : Meter) (include_name : Result IncludeName Fault) (g : NamesHeaderBy header s line meter_after include_name)
-    → s.meter.remaining ≡ plus (count_names_header_by header s line meter_after include_name g) meter_after.remaining
-asks_by_spends true s line meter_after include_name g = same_budget s.meter meter_after g.0
-asks_by_spends false s line meter_after include_name g = expansion_spends s.macros s.env g.expands ∙ ap (λ (m : Meter). plus (count_expansion g.expands) m.remaining) (sym g.leaves)
+pub asks_by_spends : (header : Bool) (name : Option IncludeName) (s : State) (line tokens : List Token) (meter_after : Meter) (include_name : Result IncludeName Fault)
+    → (g : NamesHeaderBy header name s line tokens meter_after include_name)
+    → s.meter.remaining ≡ plus (count_names_header_by header name s line tokens meter_after include_name g) meter_after.remaining
+asks_by_spends true name s line tokens meter_after include_name g = same_budget s.meter meter_after g.0
+asks_by_spends false name s line tokens meter_after include_name g = expansion_spends s.macros s.env g.expands ∙ ap (λ (m : Meter). plus (count_expansion g.expands) m.remaining) (sym g.leaves)
 
 pub asks_spends : (s : State) (line : List Token) (meter_after : Meter) (include_name : Result IncludeName Fault) (g : NamesHeader s line meter_after include_name)
     → s.meter.remaining ≡ plus (count_names_header s line meter_after include_name g) meter_after.remaining
-asks_spends s line meter_after include_name g = asks_by_spends (begins_with_header (operands line)) s line meter_after include_name g
+asks_spends s line meter_after include_name g = asks_by_spends (begins_with_header (operands line)) (name_of_header (operands line)) s line (operands line) meter_after include_name g
+
+pub operand_spends : (s : State) (line operand : List Token) (meter_after : Meter) (include_name : Result IncludeName Fault) (g : NamesOperand s line operand meter_after include_name)
+    → s.meter.remaining ≡ plus (count_names_operand s line operand meter_after include_name g) meter_after.remaining
+operand_spends s line operand meter_after include_name g = asks_by_spends (begins_with (codes "<") operand) (name_of_expansion operand) s line operand meter_after include_name g
+
+pub probes_spends : {search : Search} {row : ℕ} {line : List Token} {s : State} {ts : List Token} {meter_after : Meter} {tokens : Result (List Token) Fault}
+    → (g : Probes search row line s ts meter_after tokens)
+    → s.meter.remaining ≡ plus (count_probes g) meter_after.remaining
+probes_spends (Probes.no_tokens {s = s}) = plus-nothing s.meter.remaining
+probes_spends (Probes.other e rest) = probes_spends rest
+probes_spends (Probes.unclosed {s = s} e none) = plus-nothing s.meter.remaining
+probes_spends {line = line} (Probes.operand_fault {s = s} {ts = ts} {end = end} {meter_after = meter_after} {f = f} e ends names) =
+    operand_spends s line (take end (drop 1 ts)) meter_after (Err f) names
+probes_spends {line = line} (Probes.operator {s = s} {ts = ts} {end = end} {meter_between = between} a e ends names rest) =
+    both _ _ _ (operand_spends s line (take end (drop 1 ts)) between (Ok a) names) (probes_spends rest)
+
+probes_by_spends : (probes : Bool) (search : Search) (row : ℕ) (line : List Token) (s : State) (ts : List Token) (meter_after : Meter) (tokens : Result (List Token) Fault)
+    → (g : ProbesBy probes search row line s ts meter_after tokens)
+    → s.meter.remaining ≡ plus (count_probes_by probes search row line s ts meter_after tokens g) meter_after.remaining
+probes_by_spends true search row line s ts meter_after tokens g = probes_spends g
+probes_by_spends false search row line s ts meter_after tokens g = same_budget s.meter meter_after g.0
+
+pub probing_spends : (search : Search) (row : ℕ) (s : State) (line : List Token) (meter_after : Meter) (tokens : Result (List Token) Fault)
+    → (g : ProbesLine search row s line meter_after tokens)
+    → s.meter.remaining ≡ plus (count_probes_line search row s line meter_after tokens g) meter_after.remaining
+probing_spends search row s line meter_after tokens g = probes_by_spends (is_gnu search.profile) search row line s (operands line) meter_after tokens g
+
+value_spends : {search : Search} {row : ℕ} {s : State} {line : List Token} {meter_after : Meter} {taken : Result Bool Fault} (g : DecidesByValue search row s line meter_after taken)
+    → s.meter.remaining ≡ plus (count_value g) meter_after.remaining
+value_spends {search} {row} {s} {line} {meter_after} (DecidesByValue.probing_fault {f = f} probes is) = probing_spends search row s line meter_after (Err f) probes
+value_spends {search} {row} {s} {line} (DecidesByValue.evaluated {tokens = tokens} {meter_between = between} probes condition) =
+    both _ _ _ (probing_spends search row s line between (Ok tokens) probes) (condition_spends condition)
 
 pub decides_spends : {search : Search} {row : ℕ} {s : State} {line : LogicalLine} {meter_after : Meter} {taken : Result Bool Fault} (g : Decides search row s line meter_after taken)
     → s.meter.remaining ≡ plus (count_decides g) meter_after.remaining
 decides_spends {s = s} {meter_after = meter_after} (Decides.unmatched q x) = same_budget s.meter meter_after x.0
 decides_spends {s = s} {meter_after = meter_after} (Decides.tests_name q n x) = same_budget s.meter meter_after x.0
-decides_spends {s = s} {meter_after = meter_after} (Decides.names_no_header q v e x) = same_budget s.meter meter_after x.0
-decides_spends (Decides.evaluates q v e x) = condition_spends x
+decides_spends (Decides.evaluates q v x) = value_spends x
 
 effect_spends : {profile : Profile} {row : ℕ} {d : Option Directive} {s : State} {line : LogicalLine} {m : Progress} (e : HasEffect profile row d s line m)
     → s.meter.remaining ≡ plus (count_effect e) m.state.meter.remaining

@@ -39,7 +39,9 @@ use Rattle.ppunit.specs.Dependencies.{with_row}
 use Rattle.ppunit.specs.States.{State, Progress, running, stopped, emitted, with_once, with_meter}
 use Rattle.ppunit.specs.DirectiveLines.{operands, line_fault, named_fault}
 use Rattle.ppunit.specs.LineControl.{Presumed, presumed, renumbered}
-use Rattle.ppunit.specs.Counts.{count_control_by}
+use Rattle.ppunit.specs.Directives.{expanded_operands, pragma_expanded, ExpandsPragma, ExecutesPragma}
+use Rattle.ppunit.specs.Counts.{count_pragma, count_control_by}
+use Rattle.ppunit.specs.code.Effects.{immediate_pragma, expanded_pragma_effect, expanded_tokens, expanding_effect}
 use Rattle.ppunit.proofs.KeptItems.{kept-nothing}
 
 -- ---- tables
@@ -168,6 +170,11 @@ of_line s line (Some f) p meter = nothing_emitted (with_meter s meter) s.macros 
 of_line s line None None meter = nothing_emitted (with_meter s meter) s.macros s.env (Some (line_fault 33 line.tokens []))
 of_line s line None (Some p) meter = nothing_emitted (with_meter s meter) s.macros (renumbered s line p).env None
 
+of_expanded_pragma : (s : State) (line : List Token) (f : Option Fault) (tokens : List Token) (meter : Meter)
+    → affected (with_meter s meter) (expanded_pragma_effect s line f tokens) ≡ pragma_expanded (with_meter s meter) line f tokens
+of_expanded_pragma s line (Some f) tokens meter = nothing_emitted (with_meter s meter) s.macros s.env (Some f)
+of_expanded_pragma s line None tokens meter = refl
+
 -- what `#define` and `#undef` leave in the table
 pub leaves_macros : (s : State) (new : Macros) (r : Result (Unit {0}) Fault) (a : Result Macros Fault) → Leaves s.macros new r a → record { state = record s { macros = new }; fault = result_err r } ≡ with_macros s a
 leaves_macros s new (Ok u) a is = ap (with_macros s) (sym is)
@@ -181,15 +188,37 @@ same_effect a b e = cc
 no_immediate : (e : Effect) → None ≡ Some e → ⊥
 no_immediate e is = absurd (cc)
 
+no_tokens : (tokens : List Token) → None ≡ Some tokens → ⊥
+no_tokens tokens is = absurd (cc)
+
+same_tokens : (a b : List Token) → Some a ≡ Some b → a ≡ b
+same_tokens a b e = cc
+
+-- a pragma, by the tokens that it expands
+effect_of_pragma : (os : Option (List Token)) (profile : Profile) (row : ℕ) (s : State) (line : LogicalLine) (m : Progress)
+    → expanded_operands profile s.macros (operands line.tokens) ≡ os
+    → ExecutesPragma os profile row s line.tokens m
+    → HasEffect profile row (Some Pragma) s line m
+effect_of_pragma None profile row s line m is g =
+    HasEffect.immediate (ap (λ os. immediate_pragma os profile row s line.tokens) is) (g ∙ sym (of_pragma profile row s line.tokens))
+effect_of_pragma (Some tokens) profile row s line m is g =
+    HasEffect.expanding g.expanded is g.expands (g.is ∙ sym (of_expanded_pragma s line.tokens g.expanded.fault g.expanded.tokens g.expanded.meter))
+
 pub effect_of : (profile : Profile) (row : ℕ) (d : Option Directive) (s : State) (line : LogicalLine) (m : Progress) → ExecutesDirective profile row d s line m → HasEffect profile row d s line m
 effect_of profile row (Some Null) s line m g = HasEffect.immediate refl (g ∙ sym (nothing_emitted s s.macros s.env None))
 effect_of profile row (Some Define) s line m g = HasEffect.immediate refl (g ∙ sym (of_macros s (after_define profile s.macros (hash_place line.tokens) (operands line.tokens))))
 effect_of profile row (Some Undef) s line m g = HasEffect.immediate refl (g ∙ sym (of_macros s (after_undef profile s.macros (hash_place line.tokens) (operands line.tokens))))
 effect_of profile row (Some Line) s line m g =
     HasEffect.expanding g.expanded refl g.expands (g.is ∙ sym (of_line s line g.expanded.fault (presumed g.expanded.tokens) g.expanded.meter))
-effect_of profile row (Some Pragma) s line m g = HasEffect.immediate refl (g ∙ sym (of_pragma profile row s line.tokens))
+effect_of profile row (Some Pragma) s line m g = effect_of_pragma (expanded_operands profile s.macros (operands line.tokens)) profile row s line m refl g
 effect_of profile row (Some Unknown) s line m g = HasEffect.immediate refl (g ∙ sym (nothing_emitted s s.macros s.env (Some (named_fault 8 line.tokens))))
 effect_of profile row d s line m g = absurd g
+
+executes_pragma_at_once : (os : Option (List Token)) (profile : Profile) (row : ℕ) (s : State) (line : List Token) (e : Effect)
+    → immediate_pragma os profile row s line ≡ Some e
+    → ExecutesPragma os profile row s line (affected s e)
+executes_pragma_at_once None profile row s line e is = ap (affected s) (sym (same_effect (pragma_effect profile row s line) e is)) ∙ of_pragma profile row s line
+executes_pragma_at_once (Some tokens) profile row s line e is = absurd (no_immediate e is)
 
 executes_at_once : (profile : Profile) (row : ℕ) (d : Option Directive) (s : State) (line : LogicalLine) (e : Effect)
     → immediate_effect profile row d s line ≡ Some e
@@ -202,22 +231,42 @@ executes_at_once profile row (Some Undef) s line e is =
     let r = after_undef profile s.macros (hash_place line.tokens) (operands line.tokens) in
     ap (affected s) (sym (same_effect (macros_effect s r) e is)) ∙ of_macros s r
 executes_at_once profile row (Some Pragma) s line e is =
-    ap (affected s) (sym (same_effect (pragma_effect profile row s line.tokens) e is)) ∙ of_pragma profile row s line.tokens
+    executes_pragma_at_once (expanded_operands profile s.macros (operands line.tokens)) profile row s line.tokens e is
 executes_at_once profile row (Some Unknown) s line e is =
     let f = named_fault 8 line.tokens in
     ap (affected s) (sym (same_effect (only_fault s f) e is)) ∙ nothing_emitted s s.macros s.env (Some f)
 executes_at_once profile row d s line e is = absurd (no_immediate e is)
 
+executes_expanding : (profile : Profile) (row : ℕ) (d : Option Directive) (s : State) (line : LogicalLine) (m : Progress) (tokens : List Token) (x : Expansion)
+    → expanded_tokens profile d s line ≡ Some tokens
+    → IsExpansion s.macros s.env s.meter tokens x
+    → m ≡ affected (with_meter s x.meter) (expanding_effect d s line x.fault x.tokens)
+    → ExecutesDirective profile row d s line m
+executes_expanding profile row (Some Line) s line m tokens x is expands gives = record {
+  expanded = x;
+  expands = subst (λ ts. IsExpansion s.macros s.env s.meter ts x) (sym (same_tokens (operands line.tokens) tokens is)) expands;
+  is = gives ∙ of_line s line x.fault (presumed x.tokens) x.meter;
+}
+executes_expanding profile row (Some Pragma) s line m tokens x is expands gives =
+    let here : ExpandsPragma s line.tokens tokens m = record { expanded = x; expands = expands; is = gives ∙ of_expanded_pragma s line.tokens x.fault x.tokens x.meter } in
+    subst (λ (os : Option (List Token)). ExecutesPragma os profile row s line.tokens m) (sym is) here
+executes_expanding profile row d s line m tokens x is expands gives = absurd (no_tokens tokens is)
+
 pub executes : (profile : Profile) (row : ℕ) (d : Option Directive) (s : State) (line : LogicalLine) (m : Progress) → HasEffect profile row d s line m → ExecutesDirective profile row d s line m
 executes profile row d s line m (HasEffect.immediate {e = e} is gives) = subst (ExecutesDirective profile row d s line) (sym gives) (executes_at_once profile row d s line e is)
-executes profile row d s line m (HasEffect.expanding x is expands gives) =
-    let sets : SetsLine s line m = record { expanded = x; expands = expands; is = gives ∙ of_line s line x.fault (presumed x.tokens) x.meter } in
-    subst (λ (z : Option Directive). ExecutesDirective profile row z s line m) (sym is) sets
+executes profile row d s line m (HasEffect.expanding x is expands gives) = executes_expanding profile row d s line m _ x is expands gives
 
 -- the replacements in its operands
 abbrev pub count_effect : {profile : Profile} {row : ℕ} {d : Option Directive} {s : State} {line : LogicalLine} {m : Progress} → HasEffect profile row d s line m → ℕ
 count_effect (HasEffect.immediate is gives) = 0
 count_effect (HasEffect.expanding x is expands gives) = count_expansion expands
+
+same_pragma_count : (os : Option (List Token)) (profile : Profile) (row : ℕ) (s : State) (line : LogicalLine) (m : Progress)
+    (is : expanded_operands profile s.macros (operands line.tokens) ≡ os) (g : ExecutesPragma os profile row s line.tokens m)
+    → count_pragma os profile row s line.tokens m g ≡ count_effect (effect_of_pragma os profile row s line m is g)
+unfolding effect_of_pragma
+same_pragma_count None profile row s line m is g = refl
+same_pragma_count (Some tokens) profile row s line m is g = refl
 
 pub same_count : (profile : Profile) (row : ℕ) (d : Option Directive) (s : State) (line : LogicalLine) (m : Progress) (g : ExecutesDirective profile row d s line m)
     → count_control_by profile row d s line m g ≡ count_effect (effect_of profile row d s line m g)
@@ -226,38 +275,62 @@ same_count profile row (Some Null) s line m g = refl
 same_count profile row (Some Define) s line m g = refl
 same_count profile row (Some Undef) s line m g = refl
 same_count profile row (Some Line) s line m g = refl
-same_count profile row (Some Pragma) s line m g = refl
+same_count profile row (Some Pragma) s line m g = same_pragma_count (expanded_operands profile s.macros (operands line.tokens)) profile row s line m refl g
 same_count profile row (Some Unknown) s line m g = refl
 same_count profile row d s line m g = absurd g
 
 -- ---- facts of effects
+
+pragma_of_any_meter : (os : Option (List Token)) (profile : Profile) (row : ℕ) (s : State) (line : List Token) (n : Meter) → immediate_pragma os profile row (with_meter s n) line ≡ immediate_pragma os profile row s line
+pragma_of_any_meter None profile row s line n = refl
+pragma_of_any_meter (Some tokens) profile row s line n = refl
 
 -- An effect does not depend on the meter.
 pub effect_of_any_meter : (profile : Profile) (row : ℕ) (d : Option Directive) (s : State) (line : LogicalLine) (n : Meter) → immediate_effect profile row d (with_meter s n) line ≡ immediate_effect profile row d s line
 effect_of_any_meter profile row (Some Null) s line n = refl
 effect_of_any_meter profile row (Some Define) s line n = refl
 effect_of_any_meter profile row (Some Undef) s line n = refl
-effect_of_any_meter profile row (Some Pragma) s line n = refl
+effect_of_any_meter profile row (Some Pragma) s line n = pragma_of_any_meter (expanded_operands profile s.macros (operands line.tokens)) profile row s line.tokens n
 effect_of_any_meter profile row (Some Unknown) s line n = refl
 effect_of_any_meter profile row d s line n = refl
 
-pub line_of_any_meter : (s : State) (line : LogicalLine) (f : Option Fault) (p : Option Presumed) (n : Meter) → line_effect s line f p ≡ line_effect (with_meter s n) line f p
+line_of_any_meter : (s : State) (line : LogicalLine) (f : Option Fault) (p : Option Presumed) (n : Meter) → line_effect s line f p ≡ line_effect (with_meter s n) line f p
 line_of_any_meter s line (Some f) p n = refl
 line_of_any_meter s line None None n = refl
 line_of_any_meter s line None (Some p) n = refl
+
+pub tokens_of_any_meter : (profile : Profile) (d : Option Directive) (s : State) (line : LogicalLine) (n : Meter) → expanded_tokens profile d (with_meter s n) line ≡ expanded_tokens profile d s line
+tokens_of_any_meter profile (Some Line) s line n = refl
+tokens_of_any_meter profile (Some Pragma) s line n = refl
+tokens_of_any_meter profile d s line n = refl
+
+pub expanding_of_any_meter : (d : Option Directive) (s : State) (line : LogicalLine) (f : Option Fault) (tokens : List Token) (n : Meter) → expanding_effect d s line f tokens ≡ expanding_effect d (with_meter s n) line f tokens
+expanding_of_any_meter (Some Pragma) s line (Some f) tokens n = refl
+expanding_of_any_meter (Some Pragma) s line None tokens n = refl
+expanding_of_any_meter d s line f tokens n = line_of_any_meter s line f (presumed tokens) n
+
+-- With a fault of the expansion a line has no other effect.
+pub fault_is_effect : (d : Option Directive) (s : State) (line : LogicalLine) (f : Fault) (tokens : List Token) → expanding_effect d s line (Some f) tokens ≡ only_fault s f
+fault_is_effect (Some Pragma) s line f tokens = refl
+fault_is_effect d s line f tokens = refl
 
 -- A fault alone leaves the state as it is.
 pub fault_affects : (s : State) (f : Fault) → affected s (only_fault s f) ≡ stopped s f
 fault_affects s f = nothing_emitted s s.macros s.env (Some f)
 
+pragma_has_effect : (profile : Profile) (row : ℕ) (s : State) (line : LogicalLine) (os : Option (List Token)) → expanded_operands profile s.macros (operands line.tokens) ≡ os
+    → ((e : Effect) × (immediate_effect profile row (Some Pragma) s line ≡ Some e)) ⊎ ((tokens : List Token) × (expanded_tokens profile (Some Pragma) s line ≡ Some tokens))
+pragma_has_effect profile row s line None is = inl (pragma_effect profile row s line.tokens, ap (λ os. immediate_pragma os profile row s line.tokens) is)
+pragma_has_effect profile row s line (Some tokens) is = inr (tokens, is)
+
 -- The lines with an effect are those of the class `Control`.
 pub control_has_effect : (profile : Profile) (row : ℕ) (d : Directive) (s : State) (line : LogicalLine) → class_of d ≡ class.Control
-    → ((e : Effect) × (immediate_effect profile row (Some d) s line ≡ Some e)) ⊎ (Some d ≡ Some Line)
+    → ((e : Effect) × (immediate_effect profile row (Some d) s line ≡ Some e)) ⊎ ((tokens : List Token) × (expanded_tokens profile (Some d) s line ≡ Some tokens))
 control_has_effect profile row Null s line is = inl (no_effect s, refl)
 control_has_effect profile row Define s line is = inl (macros_effect s (after_define profile s.macros (hash_place line.tokens) (operands line.tokens)), refl)
 control_has_effect profile row Undef s line is = inl (macros_effect s (after_undef profile s.macros (hash_place line.tokens) (operands line.tokens)), refl)
-control_has_effect profile row Line s line is = inr refl
-control_has_effect profile row Pragma s line is = inl (pragma_effect profile row s line.tokens, refl)
+control_has_effect profile row Line s line is = inr (operands line.tokens, refl)
+control_has_effect profile row Pragma s line is = pragma_has_effect profile row s line (expanded_operands profile s.macros (operands line.tokens)) refl
 control_has_effect profile row Unknown s line is = inl (only_fault s (named_fault 8 line.tokens), refl)
 control_has_effect profile row d s line is = absurd (cc)
 
@@ -269,18 +342,34 @@ immediate_class profile row (Some Pragma) s line e is = refl
 immediate_class profile row (Some Unknown) s line e is = refl
 immediate_class profile row d s line e is = absurd (no_immediate e is)
 
+expanding_class : (profile : Profile) (d : Option Directive) (s : State) (line : LogicalLine) (tokens : List Token) → expanded_tokens profile d s line ≡ Some tokens → class_by d ≡ Some class.Control
+expanding_class profile (Some Line) s line tokens is = refl
+expanding_class profile (Some Pragma) s line tokens is = refl
+expanding_class profile d s line tokens is = absurd (no_tokens tokens is)
+
 effect_class : {profile : Profile} {row : ℕ} {d : Option Directive} {s : State} {line : LogicalLine} {m : Progress} → HasEffect profile row d s line m → class_by d ≡ Some class.Control
 effect_class {profile} {row} {d} {s} {line} (HasEffect.immediate {e = e} is gives) = immediate_class profile row d s line e is
-effect_class (HasEffect.expanding x is expands gives) = ap class_by is
+effect_class {profile} {row} {d} {s} {line} (HasEffect.expanding {tokens = tokens} x is expands gives) = expanding_class profile d s line tokens is
 
 pub control_class : (profile : Profile) (row : ℕ) (d : Option Directive) (s : State) (line : LogicalLine) (m : Progress) → ExecutesDirective profile row d s line m → class_by d ≡ Some class.Control
 control_class profile row d s line m g = effect_class (effect_of profile row d s line m g)
 
--- `#line` has no immediate effect.
-pub line_is_not_immediate : (profile : Profile) (row : ℕ) (d : Option Directive) (s : State) (line : LogicalLine) (e : Effect) → d ≡ Some Line → immediate_effect profile row d s line ≡ Some e → ⊥
-line_is_not_immediate profile row d s line e is gives =
-    let none : None ≡ Some e = subst (λ (z : Option Directive). immediate_effect profile row z s line ≡ Some e) is gives in
-    absurd (cc)
+pragma_is_not_immediate : (os : Option (List Token)) (profile : Profile) (row : ℕ) (s : State) (line : List Token) (tokens : List Token) (e : Effect)
+    → os ≡ Some tokens
+    → immediate_pragma os profile row s line ≡ Some e
+    → ⊥
+pragma_is_not_immediate None profile row s line tokens e is gives = no_tokens tokens is
+pragma_is_not_immediate (Some ts) profile row s line tokens e is gives = no_immediate e gives
+
+-- A line that expands tokens has no immediate effect.
+pub expanding_is_not_immediate : (profile : Profile) (row : ℕ) (d : Option Directive) (s : State) (line : LogicalLine) (tokens : List Token) (e : Effect)
+    → expanded_tokens profile d s line ≡ Some tokens
+    → immediate_effect profile row d s line ≡ Some e
+    → ⊥
+expanding_is_not_immediate profile row (Some Line) s line tokens e is gives = no_immediate e gives
+expanding_is_not_immediate profile row (Some Pragma) s line tokens e is gives =
+    pragma_is_not_immediate (expanded_operands profile s.macros (operands line.tokens)) profile row s line.tokens tokens e is gives
+expanding_is_not_immediate profile row d s line tokens e is gives = no_tokens tokens is
 
 -- the fault is not 35, if there is one
 abbrev pub IsOther : Option Fault → Type 0
@@ -292,6 +381,10 @@ macros_other : (s : State) (r : Result Macros Fault) → ((f : Fault) → r ≡ 
 macros_other s (Ok macros) h = tt
 macros_other s (Err f) h = let most : f.number ≤ 16 = h f refl in λ e. absurd (omega arith)
 
+immediate_pragma_other : (os : Option (List Token)) (profile : Profile) (row : ℕ) (s : State) (line : List Token) (e : Effect) → immediate_pragma os profile row s line ≡ Some e → IsOther e.fault
+immediate_pragma_other None profile row s line e is = subst (λ (z : Effect). IsOther z.fault) (same_effect (pragma_effect profile row s line) e is) tt
+immediate_pragma_other (Some tokens) profile row s line e is = absurd (no_immediate e is)
+
 immediate_effect_other : (profile : Profile) (row : ℕ) (d : Option Directive) (s : State) (line : LogicalLine) (e : Effect) → immediate_effect profile row d s line ≡ Some e → IsOther e.fault
 immediate_effect_other profile row (Some Null) s line e is = subst (λ (z : Effect). IsOther z.fault) (same_effect (no_effect s) e is) tt
 immediate_effect_other profile row (Some Define) s line e is =
@@ -302,7 +395,8 @@ immediate_effect_other profile row (Some Undef) s line e is =
     let r = after_undef profile s.macros (hash_place line.tokens) (operands line.tokens) in
     subst (λ (z : Effect). IsOther z.fault) (same_effect (macros_effect s r) e is)
     (macros_other s r (undef_number profile s.macros (hash_place line.tokens) (operands line.tokens)))
-immediate_effect_other profile row (Some Pragma) s line e is = subst (λ (z : Effect). IsOther z.fault) (same_effect (pragma_effect profile row s line.tokens) e is) tt
+immediate_effect_other profile row (Some Pragma) s line e is =
+    immediate_pragma_other (expanded_operands profile s.macros (operands line.tokens)) profile row s line.tokens e is
 immediate_effect_other profile row (Some Unknown) s line e is =
     subst (λ (z : Effect). IsOther z.fault) (same_effect (only_fault s (named_fault 8 line.tokens)) e is) (λ n. absurd (omega arith))
 immediate_effect_other profile row d s line e is = absurd (no_immediate e is)
@@ -312,20 +406,35 @@ line_effect_other s r (Some f) p h = h
 line_effect_other s r None None h = λ e. absurd (omega arith)
 line_effect_other s r None (Some p) h = tt
 
+expanding_effect_other : (d : Option Directive) (s : State) (r : LogicalLine) (o : Option Fault) (tokens : List Token) → IsOther o → IsOther (expanding_effect d s r o tokens).fault
+expanding_effect_other (Some Pragma) s r (Some f) tokens h = h
+expanding_effect_other (Some Pragma) s r None tokens h = tt
+expanding_effect_other d s r o tokens h = line_effect_other s r o (presumed tokens) h
+
 -- A line has a fault 35 only if the expansion of its operands has one.
 pub effect_other : {profile : Profile} {row : ℕ} {d : Option Directive} {s : State} {line : LogicalLine} {m : Progress}
-    → ((x : Expansion) → IsExpansion s.macros s.env s.meter (operands line.tokens) x → IsOther x.fault)
+    → ((tokens : List Token) (x : Expansion) → IsExpansion s.macros s.env s.meter tokens x → IsOther x.fault)
     → HasEffect profile row d s line m
     → IsOther m.fault
 effect_other {profile} {row} {d} {s} {line} expansions (HasEffect.immediate {e = e} is gives) = subst (λ (r : Progress). IsOther r.fault) (sym gives) (immediate_effect_other profile row d s line e is)
-effect_other {s = s} {line = line} expansions (HasEffect.expanding x is expands gives) =
-    subst (λ (r : Progress). IsOther r.fault) (sym gives) (line_effect_other s line x.fault (presumed x.tokens) (expansions x expands))
+effect_other {d = d} {s = s} {line = line} expansions (HasEffect.expanding {tokens = tokens} x is expands gives) =
+    subst (λ (r : Progress). IsOther r.fault) (sym gives) (expanding_effect_other d s line x.fault x.tokens (expansions tokens x expands))
 
 -- ---- the name of an invocation that waits
 
 by_table : (s : State) (t : Token) (r : Result Macros Fault) → UnchangedBy t s.macros r → Unchanged t s.macros (macros_effect s r).macros
 by_table s t (Ok macros) h = h
 by_table s t (Err f) h = refl
+
+pragma_keeps : (os : Option (List Token)) (profile : Profile) (row : ℕ) (s : State) (line : List Token) (e : Effect) (t : Token)
+    → immediate_pragma os profile row s line ≡ Some e
+    → is_refused t (Some Pragma) (operands line) ≡ false
+    → Unchanged t s.macros e.macros
+pragma_keeps None profile row s line e t is h =
+    let pushed = pushed_by_push (name_to_push profile (operands line)) s.macros s.pushed in
+    subst (λ (z : Effect). Unchanged t s.macros z.macros) (same_effect (pragma_effect profile row s line) e is)
+    (pop_other profile t s.macros pushed (operands line) h)
+pragma_keeps (Some tokens) profile row s line e t is h = absurd (no_immediate e is)
 
 -- A line that isn't refused while an invocation waits leaves what its name is.
 pub effect_keeps : (profile : Profile) (row : ℕ) (d : Option Directive) (s : State) (line : LogicalLine) (e : Effect) (t : Token)
@@ -342,18 +451,21 @@ effect_keeps profile row (Some Undef) s line e t is h =
     subst (λ (z : Effect). Unchanged t s.macros z.macros) (same_effect (macros_effect s r) e is)
     (by_table s t r (undef_other profile s.macros (hash_place line.tokens) (operands line.tokens) t h))
 effect_keeps profile row (Some Pragma) s line e t is h =
-    let pushed = pushed_by_push (name_to_push profile (operands line.tokens)) s.macros s.pushed in
-    subst (λ (z : Effect). Unchanged t s.macros z.macros) (same_effect (pragma_effect profile row s line.tokens) e is)
-    (pop_other profile t s.macros pushed (operands line.tokens) h)
+    pragma_keeps (expanded_operands profile s.macros (operands line.tokens)) profile row s line.tokens e t is h
 effect_keeps profile row (Some Unknown) s line e t is h =
     subst (λ (z : Effect). Unchanged t s.macros z.macros) (same_effect (only_fault s (named_fault 8 line.tokens)) e is) refl
 effect_keeps profile row d s line e t is h = absurd (no_immediate e is)
 
--- `#line` changes no macro.
-pub line_keeps : (s : State) (line : LogicalLine) (f : Option Fault) (p : Option Presumed) → s.macros ≡ (line_effect s line f p).macros
+line_keeps : (s : State) (line : LogicalLine) (f : Option Fault) (p : Option Presumed) → s.macros ≡ (line_effect s line f p).macros
 line_keeps s line (Some f) p = refl
 line_keeps s line None None = refl
 line_keeps s line None (Some p) = refl
+
+-- A line that expands tokens changes no macro.
+pub expanding_keeps : (d : Option Directive) (s : State) (line : LogicalLine) (f : Option Fault) (tokens : List Token) → s.macros ≡ (expanding_effect d s line f tokens).macros
+expanding_keeps (Some Pragma) s line (Some f) tokens = refl
+expanding_keeps (Some Pragma) s line None tokens = refl
+expanding_keeps d s line f tokens = line_keeps s line f (presumed tokens)
 
 -- ---- classes of directives
 

@@ -1,5 +1,5 @@
 -- If their budget is too small, lines, groups and units stop with fault 35, after a prefix of their full output.
-use Rattle.std.proofs.Common.{◌≡◌, ℕ, ◌<◌, List, [], ◌++◌, map, Bool, true, false, Option, Some, Result, Ok, Err, refl, sym, ap, ◌∙◌, subst, arith, append-nil, zero, suc, ◌+◌, ◌-◌, ◌≤◌, if◌then◌else◌}
+use Rattle.std.proofs.Common.{take, drop, codes, ◌≡◌, ℕ, ◌<◌, List, [], ◌++◌, map, Bool, true, false, Option, Some, Result, Ok, Err, refl, sym, ap, ◌∙◌, subst, arith, append-nil, zero, suc, ◌+◌, ◌-◌, ◌≤◌, if◌then◌else◌}
 use Rattle.std.proofs.lemmas.List.{map-append}
 use Rattle.pptext.specs.declared.tokens.Place.{Place}
 use Rattle.pptext.specs.declared.tokens.Token.{Token}
@@ -15,22 +15,23 @@ use Rattle.ppexpr.proofs.ConditionBudgets.{condition_short}
 use Rattle.ppunit.specs.declared.units.Item.{Item}
 use Rattle.ppunit.specs.States.{State, Progress, stopped, emitted, kept, with_meter, with_waiting, Search, file_context, in_file_context, Context, with_dependency, with_one_spent}
 use Rattle.ppunit.specs.DirectiveLines.{operands, line_fault, text_tokens}
-use Rattle.ppunit.specs.LineControl.{presumed}
-use Rattle.ppunit.specs.Including.{IncludeName, begins_with_header, name_of_expansion_or}
-use Rattle.ppunit.specs.Conditions.{Decides}
+use Rattle.ppunit.specs.Including.{IncludeName, begins_with_header, name_of_expansion_or, name_of_header, name_of_expansion}
+use Rattle.ppunit.specs.Conditions.{Decides, DecidesByValue}
+use Rattle.ppunit.specs.Probing.{begins_with, NamesOperand, Probes, ProbesBy, ProbesLine}
 use Rattle.ppunit.specs.Directives.{meter_at_text, waits_in, text_emitted, EmitsText, NamesHeaderBy, NamesHeader, ExecutesDirective}
-use Rattle.ppunit.specs.Counts.{count_decides, count_names_header_by, count_names_header, count_control_by, count_group, count_branches, count_control, count_includes, count_opening}
+use Rattle.ppunit.specs.Counts.{count_decides, count_names_header_by, count_names_header, count_names_operand, count_probes, count_probes_by, count_probes_line}
+use Rattle.ppunit.specs.Counts.{count_value, count_control_by, count_group, count_branches, count_control, count_includes, count_opening}
 use Rattle.ppunit.proofs.OutputPrefixes.{Before, before_then, control_by_before, same_state, depends, group_before, branches_before, opened_before}
 use Rattle.ppunit.proofs.WaitingInvocations.{WaitsIn, run_waits, group_waits, branches_waits, control_waits, defines_waits}
 use Rattle.ppunit.proofs.TextBudgets.{budget_at_text, covers_at_text, less_at_text, expands_at_text}
 use Rattle.ppunit.proofs.BudgetSums.{count_run}
-use Rattle.ppunit.specs.code.Effects.{affected, line_effect, HasEffect}
-use Rattle.ppunit.proofs.DirectiveEffects.{effect_of, executes, count_effect, same_count, fault_affects}
+use Rattle.ppunit.specs.code.Effects.{affected, expanding_effect, HasEffect}
+use Rattle.ppunit.proofs.DirectiveEffects.{effect_of, executes, count_effect, same_count, fault_affects, fault_is_effect, tokens_of_any_meter}
 use Rattle.pptext.specs.Tokens.{fault}
 use Rattle.ppexpand.specs.declared.meter.Meter.{Meter}
 use Rattle.ppunit.specs.Group.{depth_limit, ExecutesGroup, ExecutesBranches, ExecutesControlLine, ExecutesInclude, OpensFile}
 use Rattle.ppunit.specs.Unit.{Defines, unread, processed, Translates, definitions_fault, translated, count_defines, count_translates}
-use Rattle.ppunit.proofs.SufficientBudgets.{budgeted, holding, run_enough, asks_enough, asks_rest, decides_enough, decides_rest, run_rest}
+use Rattle.ppunit.proofs.SufficientBudgets.{budgeted, holding, run_enough, asks_enough, asks_rest, operand_enough, operand_rest, probing_enough, probing_rest, decides_enough, decides_rest, run_rest}
 use Rattle.ppunit.proofs.SufficientBudgets.{group_rest, branches_rest, control_rest, defines_rest, group_enough, branches_enough, control_enough, defines_enough}
 use native.Mathlib.Decide.{dec_lt}
 use Rattle.ppunit.specs.declared.units.Item.TheVariants as item
@@ -98,20 +99,86 @@ run_short profile s tokens m b is g less =
       record { expanded = x.expansion; expands = y.expands; is = stops ∙ ap (text_emitted (budgeted s b) x.expansion) nothing },
     )
 
-asks_by_short : (header : Bool) (s : State) (line : List Token) (meter_after : Meter) (include_name : Result IncludeName Fault) (b : ℕ) → Covers s.meter.remaining b
-    → (g : NamesHeaderBy header s line meter_after include_name)
-    → b < count_names_header_by header s line meter_after include_name g
-    → (f : Fault) × (f.number ≡ 35) × (meter : Meter) × NamesHeaderBy header (budgeted s b) line meter (Err f)
-asks_by_short true s line meter_after include_name b is g less = absurd (omega arith)
-asks_by_short false s line meter_after include_name b is g less =
-    let x : StopsEarly s.macros s.env s.meter b (operands line) g.expanded = expansion_short s.macros s.env b is g.expands less in
+asks_by_short : (header : Bool) (name : Option IncludeName) (s : State) (line tokens : List Token) (meter_after : Meter) (include_name : Result IncludeName Fault) (b : ℕ) → Covers s.meter.remaining b
+    → (g : NamesHeaderBy header name s line tokens meter_after include_name)
+    → b < count_names_header_by header name s line tokens meter_after include_name g
+    → (f : Fault) × (f.number ≡ 35) × (meter : Meter) × NamesHeaderBy header name (budgeted s b) line tokens meter (Err f)
+asks_by_short true name s line tokens meter_after include_name b is g less = absurd (omega arith)
+asks_by_short false name s line tokens meter_after include_name b is g less =
+    let x : StopsEarly s.macros s.env s.meter b tokens g.expanded = expansion_short s.macros s.env b is g.expands less in
     (x.fault, x.number, x.expansion.meter, record { expanded = x.expansion; expands = x.is; leaves = refl; is = λ i. name_of_expansion_or (line_fault 30 line []) ((sym x.stopped) i) x.expansion.tokens })
 
 pub asks_short : (s : State) (line : List Token) (meter_after : Meter) (include_name : Result IncludeName Fault) (b : ℕ) → Covers s.meter.remaining b
     → (g : NamesHeader s line meter_after include_name)
     → b < count_names_header s line meter_after include_name g
     → (f : Fault) × (f.number ≡ 35) × (meter : Meter) × NamesHeader (budgeted s b) line meter (Err f)
-asks_short s line meter_after include_name b is g less = asks_by_short (begins_with_header (operands line)) s line meter_after include_name b is g less
+asks_short s line meter_after include_name b is g less =
+    asks_by_short (begins_with_header (operands line)) (name_of_header (operands line)) s line (operands line) meter_after include_name b is g less
+
+operand_short : (s : State) (line operand : List Token) (meter_after : Meter) (include_name : Result IncludeName Fault) (b : ℕ) → Covers s.meter.remaining b
+    → (g : NamesOperand s line operand meter_after include_name)
+    → b < count_names_operand s line operand meter_after include_name g
+    → (f : Fault) × (f.number ≡ 35) × (meter : Meter) × NamesOperand (budgeted s b) line operand meter (Err f)
+operand_short s line operand meter_after include_name b is g less =
+    asks_by_short (begins_with (codes "<") operand) (name_of_expansion operand) s line operand meter_after include_name b is g less
+
+probes_short : {search : Search} {row : ℕ} {line : List Token} {s : State} {ts : List Token} {meter_after : Meter} {tokens : Result (List Token) Fault} (b : ℕ) → Covers s.meter.remaining b
+    → (g : Probes search row line s ts meter_after tokens)
+    → b < count_probes g
+    → (f : Fault) × (f.number ≡ 35) × (meter : Meter) × Probes search row line (budgeted s b) ts meter (Err f)
+probes_short b is Probes.no_tokens less = absurd (omega arith)
+probes_short b is (Probes.other e rest) less = let x = probes_short b is rest less in (x.0, x.1, x.2, Probes.other e x.3)
+probes_short b is (Probes.unclosed e none) less = absurd (omega arith)
+probes_short {line = line} b is (Probes.operand_fault {s = s} {ts = ts} {end = end} {meter_after = meter_after} {f = f} e ends names) less =
+    let x = operand_short s line (take end (drop 1 ts)) meter_after (Err f) b is names less in
+    (x.0, x.1, x.2, Probes.operand_fault e ends x.3)
+probes_short {line = line} b is (Probes.operator {s = s} {ts = ts} {end = end} {meter_between = between} a e ends names rest) less =
+    let operand : List Token = take end (drop 1 ts) in
+    let c = count_names_operand s line operand between (Ok a) names in
+    elim (dec_lt b c) [
+      | yes few ↦
+          (let x = operand_short s line operand between (Ok a) b is names few in
+          (x.0, x.1, x.2, Probes.operand_fault e ends x.3))
+      | no not_few ↦
+          (let sum : b ≡ c + (b - c) = omega arith in
+          let covers = operand_rest s line operand between (Ok a) b (b - c) is names sum in
+          let x = probes_short (b - c) covers rest (omega arith) in
+          (x.0, x.1, x.2, Probes.operator {meter_after = x.2} {tokens = Err x.0} a e ends (operand_enough s line operand between (Ok a) b is names (b - c) sum) x.3))
+    ]
+
+probes_by_short : (probes : Bool) (search : Search) (row : ℕ) (line : List Token) (s : State) (ts : List Token) (meter_after : Meter) (tokens : Result (List Token) Fault) (b : ℕ)
+    → Covers s.meter.remaining b
+    → (g : ProbesBy probes search row line s ts meter_after tokens)
+    → b < count_probes_by probes search row line s ts meter_after tokens g
+    → (f : Fault) × (f.number ≡ 35) × (meter : Meter) × ProbesBy probes search row line (budgeted s b) ts meter (Err f)
+probes_by_short true search row line s ts meter_after tokens b is g less = probes_short b is g less
+probes_by_short false search row line s ts meter_after tokens b is g less = absurd (omega arith)
+
+probing_short : (search : Search) (row : ℕ) (s : State) (line : List Token) (meter_after : Meter) (tokens : Result (List Token) Fault) (b : ℕ) → Covers s.meter.remaining b
+    → (g : ProbesLine search row s line meter_after tokens)
+    → b < count_probes_line search row s line meter_after tokens g
+    → (f : Fault) × (f.number ≡ 35) × (meter : Meter) × ProbesLine search row (budgeted s b) line meter (Err f)
+probing_short search row s line meter_after tokens b is g less = probes_by_short (is_gnu search.profile) search row line s (operands line) meter_after tokens b is g less
+
+value_short : {search : Search} {row : ℕ} {s : State} {line : List Token} {meter_after : Meter} {taken : Result Bool Fault} (b : ℕ) → Covers s.meter.remaining b
+    → (g : DecidesByValue search row s line meter_after taken)
+    → b < count_value g
+    → (f : Fault) × (f.number ≡ 35) × (meter : Meter) × DecidesByValue search row (budgeted s b) line meter (Err f)
+value_short {search} {row} {s} {line} {meter_after} b is (DecidesByValue.probing_fault {f = f} probes e) less =
+    let x = probing_short search row s line meter_after (Err f) b is probes less in
+    (x.0, x.1, x.2, DecidesByValue.probing_fault x.3 refl)
+value_short {search} {row} {s} {line} b is (DecidesByValue.evaluated {tokens = tokens} {meter_between = between} probes condition) less =
+    let c = count_probes_line search row s line between (Ok tokens) probes in
+    elim (dec_lt b c) [
+      | yes few ↦
+          (let x = probing_short search row s line between (Ok tokens) b is probes few in
+          (x.0, x.1, x.2, DecidesByValue.probing_fault x.3 refl))
+      | no not_few ↦
+          (let sum : b ≡ c + (b - c) = omega arith in
+          let covers = probing_rest search row s line between (Ok tokens) b (b - c) is probes sum in
+          let y = condition_short (b - c) covers condition (omega arith) in
+          (y.fault, y.number, y.meter_after, DecidesByValue.evaluated (probing_enough search row s line between (Ok tokens) b is probes (b - c) sum) y.is))
+    ]
 
 pub decides_short : {search : Search} {row : ℕ} {s : State} {line : LogicalLine} {meter_after : Meter} {taken : Result Bool Fault} (b : ℕ) → Covers s.meter.remaining b
     → (g : Decides search row s line meter_after taken)
@@ -119,8 +186,7 @@ pub decides_short : {search : Search} {row : ℕ} {s : State} {line : LogicalLin
     → (f : Fault) × (f.number ≡ 35) × (meter : Meter) × Decides search row (budgeted s b) line meter (Err f)
 decides_short b is (Decides.unmatched q x) less = absurd (omega arith)
 decides_short b is (Decides.tests_name q n x) less = absurd (omega arith)
-decides_short b is (Decides.names_no_header q v e x) less = absurd (omega arith)
-decides_short b is (Decides.evaluates q v e x) less = let y = condition_short b is x less in (y.fault, y.number, y.meter_after, Decides.evaluates q v e y.is)
+decides_short b is (Decides.evaluates q v x) less = let y = value_short b is x less in (y.0, y.1, y.2, Decides.evaluates q v y.3)
 
 effect_short : (profile : Profile) (row : ℕ) (d : Option Directive) (s : State) (line : LogicalLine) (m : Progress) (b : ℕ) → Covers s.meter.remaining b
     → Before s m.state
@@ -128,13 +194,14 @@ effect_short : (profile : Profile) (row : ℕ) (d : Option Directive) (s : State
     → b < count_effect e
     → Stops m.state (λ t f. HasEffect profile row d (budgeted s b) line (stopped t f))
 effect_short profile row d s line m b is before (HasEffect.immediate does gives) less = absurd (omega arith)
-effect_short profile row d s line m b is before (HasEffect.expanding x does expands gives) less =
-    let y : StopsEarly s.macros s.env s.meter b (operands line.tokens) x = expansion_short s.macros s.env b is expands less in
+effect_short profile row d s line m b is before (HasEffect.expanding {tokens = tokens} x does expands gives) less =
+    let y : StopsEarly s.macros s.env s.meter b tokens x = expansion_short s.macros s.env b is expands less in
     let u = budgeted s b in
     let t = with_meter s y.expansion.meter in
-    let outcome : stopped t y.fault ≡ affected t (line_effect u line y.expansion.fault (presumed y.expansion.tokens)) =
-    (sym (fault_affects t y.fault)) ∙ (λ i. affected t (line_effect u line ((sym y.stopped) i) (presumed y.expansion.tokens))) in
-    (t, y.fault, over_same s m.state y.expansion.meter y.fault y.number before, HasEffect.expanding y.expansion does y.is outcome)
+    let outcome : stopped t y.fault ≡ affected t (expanding_effect d u line y.expansion.fault y.expansion.tokens) =
+    (sym (fault_affects t y.fault)) ∙ ap (affected t) (sym (fault_is_effect d u line y.fault y.expansion.tokens))
+    ∙ (λ i. affected t (expanding_effect d u line ((sym y.stopped) i) y.expansion.tokens)) in
+    (t, y.fault, over_same s m.state y.expansion.meter y.fault y.number before, HasEffect.expanding y.expansion (tokens_of_any_meter profile d s line (with_budget (Some b) s.meter) ∙ does) y.is outcome)
 
 pub control_by_short : (profile : Profile) (row : ℕ) (d : Option Directive) (s : State) (line : LogicalLine) (m : Progress) (b : ℕ) → Covers s.meter.remaining b
     → (g : ExecutesDirective profile row d s line m)

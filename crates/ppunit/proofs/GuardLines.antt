@@ -26,10 +26,11 @@ use Rattle.ppexpr.proofs.ConditionBudgets.{condition_spends, condition_enough}
 use Rattle.ppexpr.proofs.GuardConditions.{punctuator, as_defined, as_name, bare_false, parenthesized_false}
 use Rattle.ppunit.specs.States.{Search, State}
 use Rattle.ppunit.specs.Quotes.{unmatched_quote}
-use Rattle.ppunit.specs.DirectiveLines.{line_fault}
-use Rattle.ppunit.specs.Probing.{probed, tokens_or, condition_tokens}
-use Rattle.ppunit.specs.Conditions.{is_macro_name, by_name, Decides}
-use Rattle.ppunit.specs.Counts.{count_decides}
+use Rattle.ppunit.specs.Probing.{ProbesBy}
+use Rattle.ppunit.specs.Conditions.{by_name, Decides, DecidesByValue}
+use Rattle.ppunit.specs.States.{is_macro_name}
+use Rattle.ppunit.specs.Counts.{count_decides, count_probes_by}
+use Rattle.ppunit.proofs.HasIncludeNumbers.{NoneApplies, unprobed, unprobed_free}
 use Rattle.ppunit.proofs.FileTokens.{IsSpelled, AreSpelled, IsSpelledLine, opens_header, kind_is, defined_spelled}
 use Rattle.std.specs.FinMap as table
 use Rattle.ppexpand.specs.declared.meter.Meter.{Meter}
@@ -131,21 +132,26 @@ costs_nothing s at tokens condition meter = by_budget meter.remaining refl
         let counts : k ≡ 0 = cc in
         counts
 
--- If operands have no `__has_include` to replace, they are the tokens of the condition.
-unprobed : (search : Search) (row : ℕ) (h d : Token) (ts : List Token) → probed search row ts ≡ Some ts → condition_tokens search row (h ∷ d ∷ ts) ≡ Ok ts
-unprobed search row h d ts e = chosen (is_gnu search.profile)
-  where
-    chosen : (b : Bool) → (if b then tokens_or (line_fault 30 (h ∷ d ∷ ts) []) (probed search row ts) else Ok ts) ≡ Ok ts
-    chosen true = ap (tokens_or (line_fault 30 (h ∷ d ∷ ts) [])) e
-    chosen false = refl
+-- Operands in which no has-include operator applies are the tokens of the condition, and that costs nothing.
+unprobed_by : (search : Search) (row : ℕ) (line : List Token) (s : State) (ts : List Token) (b : Bool)
+    → NoneApplies ts
+    → (p : ProbesBy b search row line s ts s.meter (Ok ts)) × (count_probes_by b search row line s ts s.meter (Ok ts) p ≡ 0)
+unprobed_by search row line s ts true none = (unprobed search row line s ts none, unprobed_free search row line s ts none)
+unprobed_by search row line s ts false none = ((refl, refl), refl)
+
+no_sum : (a b : ℕ) → a ≡ 0 → b ≡ 0 → a + b ≡ 0
+no_sum a b none no_more = omega arith
 
 by_condition : (search : Search) (row : ℕ) (s : State) (h d : Token) (ts : List Token)
-    → probed search row ts ≡ Some ts
+    → NoneApplies ts
     → IsFalseFreely s h.at ts
     → unmatched_quote (h ∷ d ∷ ts) ≡ None
     → Skips search row s (Some If) (h ∷ d ∷ ts)
-by_condition search row s h d ts stays condition quotes number =
-    (Decides.evaluates quotes refl (unprobed search row h d ts stays) (condition s.meter), costs_nothing s h.at ts condition s.meter)
+by_condition search row s h d ts none condition quotes number =
+    let p = unprobed_by search row (h ∷ d ∷ ts) s ts (is_gnu search.profile) none in (
+      Decides.evaluates quotes refl (DecidesByValue.evaluated p.0 (condition s.meter)),
+      no_sum _ _ p.1 (costs_nothing s h.at ts condition s.meter),
+    )
 
 by_ifndef : (search : Search) (row : ℕ) (s : State) (profile : Profile) (h d t : Token) (x : List ℕ)
     → is_hash h.text ≡ true
@@ -174,11 +180,11 @@ by_bare search row s profile h d n f t x sn sf hash g known =
     let asks = defined_is f sf q.1 in
     let name = name_is t g.kind in
     let same : (punctuator (codes "!") n ∷ as_defined f ∷ as_name t ∷ []) ≡ (n ∷ f ∷ t ∷ []) = λ i. bang i ∷ asks i ∷ name i ∷ [] in
-    let stays : probed search row (n ∷ f ∷ t ∷ []) ≡ Some (n ∷ f ∷ t ∷ []) = subst (λ (z : List Token). probed search row z ≡ Some z) same refl in
+    let none : NoneApplies (n ∷ f ∷ t ∷ []) = subst NoneApplies same (refl, (refl, (refl, tt))) in
     let condition : IsFalseFreely s h.at (n ∷ f ∷ t ∷ []) = subst (λ (z : List Token). IsFalseFreely s h.at z) same (λ meter. bare_false s.macros s.env h.at meter n f t (known_name s x t g.name known)) in
     decided search row s profile h d (n ∷ f ∷ t ∷ []) (codes "if") If hash p.0 (if_called profile) refl
     (named_unquoted n (codes "!") q.0 refl, (named_unquoted f (codes "defined") q.1 refl, (ident_unquoted t g.kind, tt)))
-    (by_condition search row s h d (n ∷ f ∷ t ∷ []) stays condition)
+    (by_condition search row s h d (n ∷ f ∷ t ∷ []) none condition)
 
 by_parenthesized : (search : Search) (row : ℕ) (s : State) (profile : Profile) (h d n f l t r : Token) (x : List ℕ)
     → IsSpelled n
@@ -201,7 +207,7 @@ by_parenthesized search row s profile h d n f l t r x sn sf sl sr hash g known =
     let closes = punctuator_is r (codes ")") sr context.1 refl refl in
     let same : (punctuator (codes "!") n ∷ as_defined f ∷ punctuator (codes "(") l ∷ as_name t ∷ punctuator (codes ")") r ∷ []) ≡ (n ∷ f ∷ l ∷ t ∷ r ∷ []) =
     λ i. bang i ∷ asks i ∷ opens i ∷ name i ∷ closes i ∷ [] in
-    let stays : probed search row (n ∷ f ∷ l ∷ t ∷ r ∷ []) ≡ Some (n ∷ f ∷ l ∷ t ∷ r ∷ []) = subst (λ (z : List Token). probed search row z ≡ Some z) same refl in
+    let none : NoneApplies (n ∷ f ∷ l ∷ t ∷ r ∷ []) = subst NoneApplies same (refl, (refl, (refl, (refl, (refl, tt))))) in
     let condition : IsFalseFreely s h.at (n ∷ f ∷ l ∷ t ∷ r ∷ []) = subst (λ (z : List Token). IsFalseFreely s h.at z) same
     (λ meter. parenthesized_false s.macros s.env h.at meter n f l t r (known_name s x t g.name known)) in
     decided search row s profile h d (n ∷ f ∷ l ∷ t ∷ r ∷ []) (codes "if") If hash p.0 (if_called profile) refl (
@@ -210,7 +216,7 @@ by_parenthesized search row s profile h d n f l t r x sn sf sl sr hash g known =
         named_unquoted f (codes "defined") q.1 refl,
         (named_unquoted l (codes "(") context.0 refl, (ident_unquoted t g.kind, (named_unquoted r (codes ")") context.1 refl, tt))),
       ),
-    ) (by_condition search row s h d (n ∷ f ∷ l ∷ t ∷ r ∷ []) stays condition)
+    ) (by_condition search row s h d (n ∷ f ∷ l ∷ t ∷ r ∷ []) none condition)
 
 guard_decides : (search : Search) (row : ℕ) (s : State) (profile : Profile) (tokens : List Token) (x : List ℕ)
     → AreSpelled tokens

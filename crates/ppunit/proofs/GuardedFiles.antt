@@ -18,7 +18,7 @@ use Rattle.ppshelf.specs.Files.{file_at}
 use Rattle.ppunit.specs.States.{State, Context, search_of, running, with_dependency, entering, with_one_spent, with_waiting}
 use Rattle.ppunit.specs.Dependencies.{has_row}
 use Rattle.ppunit.specs.DirectiveLines.{text_tokens}
-use Rattle.ppunit.specs.Conditions.{is_macro_name}
+use Rattle.ppunit.specs.States.{is_macro_name}
 use Rattle.ppunit.specs.Directives.{EmitsText, waits_in, fault_unless, fault_at_end}
 use Rattle.ppunit.specs.Group.{depth_limit, ExecutesGroup, ExecutesBranches, OpensFile}
 use Rattle.ppunit.specs.Counts.{counted_before, count_group, count_opening}

@@ -1,13 +1,18 @@
--- Replacing the uses of `__has_include` by numbers, token by token.
-use Rattle.std.proofs.Common.{◌≡◌, ℕ, suc, zero, ◌+◌, ◌-◌, Bool, true, false, ◌&&◌, List, [], ◌∷◌, ◌++◌, Option, Some, None, append_assoc}
-use Rattle.std.proofs.Common.{length, take, drop, arith, refl, sym, ap, ◌∙◌, subst, if◌then◌else◌}
+-- Replacing the has-include operators by numbers, token by token.
+use Rattle.std.proofs.Common.{◌≡◌, ℕ, suc, ◌+◌, ◌-◌, ◌<◌, Bool, true, false, ◌&&◌, List, [], ◌∷◌, ◌++◌, Some, None, Result, Ok, Err, append_assoc, append-nil}
+use Rattle.std.proofs.Common.{length, take, drop, codes, arith, refl, sym, ap, ◌∙◌, subst}
 use Rattle.std.specs.List.{list_any}
 use Rattle.std.proofs.lemmas.Bool.{or_parts}
+use Rattle.std.proofs.lemmas.List.{length-drop}
 use Rattle.std.proofs.lemmas.Grind.{common_steps}
 use Rattle.pptext.specs.declared.tokens.Token.{Token}
-use Rattle.ppunit.specs.States.{Search}
-use Rattle.ppunit.specs.Including.{name_of_expansion, if_possible_name}
-use Rattle.ppunit.specs.Probing.{is_has_include, opens, probe_result, closing, operator_number, parenthesized, first_and_rest, probed_after, probed}
+use Rattle.pptext.specs.declared.tokens.Fault.{Fault}
+use Rattle.ppexpand.specs.declared.meter.Meter.{Meter}
+use Rattle.ppunit.specs.States.{Search, State, with_meter}
+use Rattle.ppunit.specs.DirectiveLines.{line_fault}
+use Rattle.ppunit.specs.Including.{IncludeName}
+use Rattle.ppunit.specs.Probing.{is_operator, begins_with, applies, operand_end, NamesOperand, directory_before, has_file, number_for, after_first, Probes}
+use Rattle.ppunit.specs.Counts.{count_probes}
 
 -- Tokens with equal fields are equal.
 pub same_token : (u t : Token) → (u.text ≡ t.text) × ((u.at ≡ t.at) × ((u.used ≡ t.used) × ((u.kind ≡ t.kind) × (u.space ≡ t.space)))) → u ≡ t
@@ -17,114 +22,142 @@ same_token u t e = λ i. record { text = e.0 i; at = e.1.0 i; used = e.1.1.0 i; 
 pub rest_behind : (ts : List Token) (i : ℕ) → take (length ts - (i + 1)) (drop (i + 1) ts) ≡ drop (suc i) ts
 rest_behind ts i = let same : i + 1 ≡ suc i = omega arith in rw same (grind (arith, common_steps))
 
--- the number for an `__has_include` with these tokens before its `)`; none if they name no header
-abbrev told_of : Search → ℕ → Token → List Token → Option Token
-told_of search row name following = probe_result search row name (if_possible_name (name_of_expansion (drop 1 following)))
+-- The tokens behind an operand are fewer than those from its operator on.
+pub fewer_behind : (rest ts inside : List Token) (u : Token) (end : ℕ) → rest ≡ u ∷ ts → inside ≡ drop 1 ts → length (take (length inside - (end + 1)) (drop (end + 1) inside)) < length rest
+fewer_behind rest ts inside u end split inner =
+    let behind : length (take (length inside - (end + 1)) (drop (end + 1) inside)) ≡ length (drop (suc end) inside) = ap length (rest_behind inside end) in
+    let dropped : length (drop (suc end) inside) ≡ length inside - suc end = length-drop (suc end) inside in
+    let first : length inside ≡ length ts - 1 = ap length inner ∙ length-drop 1 ts in
+    let all : length rest ≡ suc (length ts) = ap length split in
+    omega arith
 
-module _ (search : Search) (row : ℕ) where
-  abbrev pub From : List Token → Option (List Token)
-  From ts = probed search row ts
+nothing_left : (ts : List Token) → length ts ≡ 0 → ts ≡ []
+nothing_left [] e = refl
+nothing_left (t ∷ ts) e = absurd (omega arith)
 
-  -- the tokens after an operator
-  passed_over : (n : ℕ) (ts : List Token) → probed_after search row n ts ≡ From (drop n ts)
-  passed_over zero ts = refl
-  passed_over (suc n) [] = refl
-  passed_over (suc n) (t ∷ ts) = passed_over n ts
+-- the tokens so far, before the result for the rest
+abbrev pub prepended : List Token → Result (List Token) Fault → Result (List Token) Fault
+prepended done (Err f) = Err f
+prepended done (Ok ts) = Ok (done ++ ts)
 
-  -- the tokens so far, before the result for the rest
-  abbrev pub prepended : List Token → Option (List Token) → Option (List Token)
-  prepended done None = None
-  prepended done (Some ts) = Some (done ++ ts)
+prepended_nothing : (r : Result (List Token) Fault) → prepended [] r ≡ r
+prepended_nothing (Err f) = refl
+prepended_nothing (Ok ts) = refl
 
-  pub record Probes (tokens done rest : List Token) : Type 0 where
-    pub is : From tokens ≡ prepended done (From rest)
+one_more : (done next : List Token) (t : Token) (r : Result (List Token) Fault) → next ≡ done ++ t ∷ [] → prepended done (after_first t r) ≡ prepended next r
+one_more done next t (Err f) longer = refl
+one_more done next t (Ok ts) longer = ap Ok (sym (append_assoc done (t ∷ []) ts)) ∙ ap (λ (z : List Token). Ok (z ++ ts)) (sym longer)
 
-  one_more : (done : List Token) (t : Token) (o : Option (List Token)) → prepended done (first_and_rest (Some t) o) ≡ prepended (done ++ t ∷ []) o
-  one_more done t None = refl
-  one_more done t (Some ts) = ap Some (sym (append_assoc done (t ∷ []) ts))
+-- no token is an operator before a `(`
+abbrev pub NoneApplies : List Token → Type 0
+NoneApplies [] = Unit {0}
+NoneApplies (t ∷ ts) = (applies t ts ≡ false) × NoneApplies ts
 
-  -- one more token u, if the rest begins with u or with a use that u replaces
-  probes_more : (tokens done next rest more : List Token) (u : Token)
-      → From rest ≡ first_and_rest (Some u) (From more)
-      → next ≡ done ++ u ∷ []
-      → Probes tokens done rest
-      → Probes tokens next more
-  probes_more tokens done next rest more u becomes longer p =
-      record { is = p.is ∙ ap (prepended done) becomes ∙ one_more done u (From more) ∙ ap (λ (z : List Token). prepended z (From more)) (sym longer) }
+no_use : (t : Token) (b : Bool) → is_operator t ≡ false → (b && is_operator t) ≡ false
+no_use t true e = e
+no_use t false e = refl
 
-  -- the tokens from a token on, by whether it is an `__has_include` before a `(`
-  abbrev from_first : Token → List Token → Option ℕ → Bool → Option (List Token)
-  from_first t ts close b =
-      if b then first_and_rest (operator_number search row t ts close) (probed_after search row (parenthesized close) ts) else first_and_rest (Some t) (From ts)
+pub none_applies : (ts : List Token) → list_any is_operator ts ≡ false → NoneApplies ts
+none_applies [] e = tt
+none_applies (t ∷ ts) e =
+    let p = or_parts (is_operator t) (list_any is_operator ts) e in
+    (no_use t (begins_with (codes "(") ts) p.0, none_applies ts p.1)
 
-  first_other : (t : Token) (ts : List Token) → (opens ts && is_has_include t) ≡ false → From (t ∷ ts) ≡ first_and_rest (Some t) (From ts)
-  first_other t ts e = ap (from_first t ts (closing ts)) e
+module _ (search : Search) (row : ℕ) (line : List Token) where
+  -- In state s some tokens give those that are done and then what the rest gives in state t, which has another meter.
+  pub record ProbesSoFar (s : State) (tokens done : List Token) (t : State) (rest : List Token) : Type 0 where
+    pub state : t ≡ with_meter s t.meter
+    pub goes_on : (meter_after : Meter) (r : Result (List Token) Fault) → Probes search row line t rest meter_after r → Probes search row line s tokens meter_after (prepended done r)
 
-  first_begun : (t : Token) (ts : List Token) (close : Option ℕ) → (opens ts && is_has_include t) ≡ true → closing ts ≡ close → From (t ∷ ts) ≡ from_first t ts close true
-  first_begun t ts close e found = ap (from_first t ts (closing ts)) e ∙ ap (λ (z : Option ℕ). from_first t ts z true) found
+  pub at_first : (s : State) (tokens : List Token) → ProbesSoFar s tokens [] s tokens
+  at_first s tokens = record {
+    state = refl;
+    goes_on = λ meter_after r p. subst (Probes search row line s tokens meter_after) (sym (prepended_nothing r)) p;
+  }
 
-  first_number : (t : Token) (ts : List Token) (i : ℕ)
-      → (opens ts && is_has_include t) ≡ true
-      → closing ts ≡ Some i
-      → From (t ∷ ts) ≡ first_and_rest (told_of search row t (take i ts)) (From (drop (suc i) ts))
-  first_number t ts i e found = first_begun t ts (Some i) e found ∙ ap (first_and_rest (told_of search row t (take i ts))) (passed_over (suc i) ts)
+  -- an ordinary token
+  pub after_other : (s t : State) (tokens done next rest ts : List Token) (u v : Token)
+      → false ≡ applies u ts
+      → rest ≡ u ∷ ts
+      → v ≡ u
+      → next ≡ done ++ v ∷ []
+      → ProbesSoFar s tokens done t rest
+      → ProbesSoFar s tokens next t ts
+  after_other s t tokens done next rest ts u v e split is longer p = record {
+    state = p.state;
+    goes_on = λ meter_after r probes.
+        let here : Probes search row line t (u ∷ ts) meter_after (after_first u r) = Probes.other (sym e) probes in
+        let all = p.goes_on meter_after (after_first u r) (subst (λ (z : List Token). Probes search row line t z meter_after (after_first u r)) (sym split) here) in
+        subst (Probes search row line s tokens meter_after) (one_more done next u r (longer ∙ ap (λ (z : Token). done ++ z ∷ []) is)) all;
+  }
 
-  pub probes_other : (tokens done next rest ts : List Token) (t u : Token)
-      → false ≡ (opens ts && is_has_include t)
-      → rest ≡ t ∷ ts
-      → u ≡ t
-      → next ≡ done ++ u ∷ []
-      → Probes tokens done rest
-      → Probes tokens next ts
-  probes_other tokens done next rest ts t u e split is longer p =
-      probes_more tokens done next rest ts u (ap From split ∙ first_other t ts (sym e) ∙ ap (λ (z : Token). first_and_rest (Some z) (From ts)) (sym is)) longer p
-
-  pub probes_number : (tokens done next rest ts later : List Token) (t u : Token) (i : ℕ)
-      → true ≡ (opens ts && is_has_include t)
-      → rest ≡ t ∷ ts
-      → Some i ≡ closing ts
-      → Some u ≡ told_of search row t (take i ts)
-      → next ≡ done ++ u ∷ []
-      → later ≡ drop (suc i) ts
-      → Probes tokens done rest
-      → Probes tokens next later
-  probes_number tokens done next rest ts later t u i e split found is longer there p =
-      subst (λ (z : List Token). Probes tokens next z) (sym there)
-      (probes_more tokens done next rest (drop (suc i) ts) u
-      (ap From split ∙ first_number t ts i (sym e) (sym found) ∙ ap (λ (z : Option Token). first_and_rest z (From (drop (suc i) ts))) (sym is)) longer p)
+  -- an operator with its operand
+  pub after_operator : (s t t' : State) (tokens done next rest ts inside later : List Token) (u v : Token) (a : IncludeName) (end : ℕ)
+      → true ≡ applies u ts
+      → rest ≡ u ∷ ts
+      → inside ≡ drop 1 ts
+      → Some end ≡ operand_end inside
+      → t' ≡ with_meter t t'.meter
+      → NamesOperand t line (take end inside) t'.meter (Ok a)
+      → v ≡ number_for u (has_file search row (directory_before u t'.directory) a)
+      → next ≡ done ++ v ∷ []
+      → later ≡ drop (suc end) inside
+      → ProbesSoFar s tokens done t rest
+      → ProbesSoFar s tokens next t' later
+  after_operator s t t' tokens done next rest ts inside later u v a end e split inner ends_inside same names_inside is longer there_inside p =
+      let ends : Some end ≡ operand_end (drop 1 ts) = ends_inside ∙ ap operand_end inner in
+      let names : NamesOperand t line (take end (drop 1 ts)) t'.meter (Ok a) = subst (λ (z : List Token). NamesOperand t line (take end z) t'.meter (Ok a)) inner names_inside in
+      let there : later ≡ drop (suc end) (drop 1 ts) = there_inside ∙ ap (drop (suc end)) inner in
+      let number = number_for u (has_file search row (directory_before u t.directory) a) in
+      let told : v ≡ number = is ∙ ap (λ (z : State). number_for u (has_file search row (directory_before u z.directory) a)) same in
+      record {
+        state = same ∙ ap (λ (z : State). with_meter z t'.meter) p.state;
+        goes_on = λ meter_after r probes.
+            let following : Probes search row line (with_meter t t'.meter) (drop (suc end) (drop 1 ts)) meter_after r =
+            subst (λ (z : State). Probes search row line z (drop (suc end) (drop 1 ts)) meter_after r) same
+            (subst (λ (z : List Token). Probes search row line t' z meter_after r) there probes) in
+            let here : Probes search row line t (u ∷ ts) meter_after (after_first number r) = Probes.operator a (sym e) (sym ends) names following in
+            let all = p.goes_on meter_after (after_first number r) (subst (λ (z : List Token). Probes search row line t z meter_after (after_first number r)) (sym split) here) in
+            subst (Probes search row line s tokens meter_after) (one_more done next number r (longer ∙ ap (λ (z : Token). done ++ z ∷ []) told)) all;
+      }
 
   -- ---- the end
 
-  -- If the rest has no result, there is none at all.
-  probes_nothing : (tokens done rest : List Token) → From rest ≡ None → Probes tokens done rest → None ≡ From tokens
-  probes_nothing tokens done rest e p = sym (p.is ∙ ap (prepended done) e)
+  pub at_end : (s t : State) (tokens done rest : List Token) → length rest ≡ 0 → ProbesSoFar s tokens done t rest → Probes search row line s tokens t.meter (Ok done)
+  at_end s t tokens done rest none p =
+      let all = p.goes_on t.meter (Ok []) (subst (λ (z : List Token). Probes search row line t z t.meter (Ok [])) (sym (nothing_left rest none)) Probes.no_tokens) in
+      subst (λ (z : List Token). Probes search row line s tokens t.meter (Ok z)) (append-nil done) all
 
-  pub probes_open : (tokens done rest ts : List Token) (t : Token)
-      → true ≡ (opens ts && is_has_include t)
-      → rest ≡ t ∷ ts
-      → None ≡ closing ts
-      → Probes tokens done rest
-      → None ≡ From tokens
-  probes_open tokens done rest ts t e split none p = probes_nothing tokens done rest (ap From split ∙ first_begun t ts None (sym e) (sym none)) p
+  pub at_open : (s t : State) (tokens done rest ts inside : List Token) (u : Token)
+      → true ≡ applies u ts
+      → rest ≡ u ∷ ts
+      → inside ≡ drop 1 ts
+      → None ≡ operand_end inside
+      → ProbesSoFar s tokens done t rest
+      → Probes search row line s tokens t.meter (Err (line_fault 30 line []))
+  at_open s t tokens done rest ts inside u e split inner none p =
+      let here : Probes search row line t (u ∷ ts) t.meter (Err (line_fault 30 line [])) = Probes.unclosed (sym e) (sym (none ∙ ap operand_end inner)) in
+      p.goes_on t.meter (Err (line_fault 30 line [])) (subst (λ (z : List Token). Probes search row line t z t.meter (Err (line_fault 30 line []))) (sym split) here)
 
-  pub probes_unasked : (tokens done rest ts : List Token) (t : Token) (i : ℕ)
-      → true ≡ (opens ts && is_has_include t)
-      → rest ≡ t ∷ ts
-      → Some i ≡ closing ts
-      → None ≡ told_of search row t (take i ts)
-      → Probes tokens done rest
-      → None ≡ From tokens
-  probes_unasked tokens done rest ts t i e split found none p =
-      probes_nothing tokens done rest
-      (ap From split ∙ first_number t ts i (sym e) (sym found) ∙ ap (λ (z : Option Token). first_and_rest z (From (drop (suc i) ts))) (sym none)) p
+  pub at_fault : (s t : State) (tokens done rest ts inside : List Token) (u : Token) (end : ℕ) (meter_after : Meter) (f : Fault)
+      → true ≡ applies u ts
+      → rest ≡ u ∷ ts
+      → inside ≡ drop 1 ts
+      → Some end ≡ operand_end inside
+      → NamesOperand t line (take end inside) meter_after (Err f)
+      → ProbesSoFar s tokens done t rest
+      → Probes search row line s tokens meter_after (Err f)
+  at_fault s t tokens done rest ts inside u end meter_after f e split inner ends names_inside p =
+      let names : NamesOperand t line (take end (drop 1 ts)) meter_after (Err f) = subst (λ (z : List Token). NamesOperand t line (take end z) meter_after (Err f)) inner names_inside in
+      let here : Probes search row line t (u ∷ ts) meter_after (Err f) = Probes.operand_fault (sym e) (sym (ends ∙ ap operand_end inner)) names in
+      p.goes_on meter_after (Err f) (subst (λ (z : List Token). Probes search row line t z meter_after (Err f)) (sym split) here)
 
-  -- Tokens without `__has_include` are unchanged.
-  no_use : (t : Token) (b : Bool) → is_has_include t ≡ false → (b && is_has_include t) ≡ false
-  no_use t true e = e
-  no_use t false e = refl
+  -- Tokens in which no operator applies are unchanged, and that costs nothing.
+  pub unprobed : (s : State) (ts : List Token) → NoneApplies ts → Probes search row line s ts s.meter (Ok ts)
+  unprobed s [] none = Probes.no_tokens
+  unprobed s (t ∷ ts) none = Probes.other none.0 (unprobed s ts none.1)
 
-  pub unused : (ts : List Token) → list_any is_has_include ts ≡ false → From ts ≡ Some ts
-  unused [] e = refl
-  unused (t ∷ ts) e =
-      let p = or_parts (is_has_include t) (list_any is_has_include ts) e in
-      first_other t ts (no_use t (opens ts) p.0) ∙ ap (first_and_rest (Some t)) (unused ts p.1)
+  pub unprobed_free : (s : State) (ts : List Token) (none : NoneApplies ts) → count_probes (unprobed s ts none) ≡ 0
+  unfolding unprobed
+  unprobed_free s [] none = refl
+  unprobed_free s (t ∷ ts) none = unprobed_free s ts none.1

@@ -1,5 +1,5 @@
 -- A decision from the tokens and the directive of a line is a decision of the line.
-use Rattle.std.proofs.Common.{◌≡◌, ◌≢◌, ℕ, Bool, true, false, ◌&&◌, if◌then◌else◌, List, [], refl, sym, ap, ◌∙◌, subst, Option, None, Some, IsSome, Result, Ok, Err}
+use Rattle.std.proofs.Common.{◌≡◌, ◌≢◌, ℕ, Bool, true, false, ◌&&◌, List, refl, sym, ap, ◌∙◌, subst, Option, None, Some, IsSome, Result, Ok, Err}
 use Rattle.std.specs.List.{list_any}
 use Rattle.std.proofs.lemmas.Bool.{false≢true}
 use Rattle.pptext.specs.declared.tokens.Place.{Place}
@@ -11,19 +11,19 @@ use Rattle.pptext.specs.declared.directives.Class.{Class}
 use Rattle.pptext.specs.declared.directives.Question.TheVariants.{Defined, Value}
 use Rattle.pptext.specs.declared.directives.Question.{Question}
 use Rattle.pptext.specs.declared.directives.Class.TheVariants as class
-use Rattle.pptext.specs.Classes.{class_of, question_in, question_of, question_by, elifs, begins_elif_group}
+use Rattle.pptext.specs.Classes.{class_of, question_in, question_of, elifs, begins_elif_group}
 use Rattle.pptext.specs.Lines.{LogicalLine}
-use Rattle.ppunit.specs.States.{Search, State}
-use Rattle.ppunit.specs.Conditions.{by_name, Decides}
-use Rattle.ppunit.specs.code.Lines.{directed, DecidesOf, IsConditional}
+use Rattle.ppunit.specs.States.{Search, State, with_meter}
+use Rattle.ppunit.specs.Conditions.{by_name, DecidesByValue, Decides}
+use Rattle.ppunit.specs.code.Lines.{directed, IsConditional}
 use Rattle.ppunit.specs.Quotes.{unmatched_quote}
-use Rattle.ppunit.specs.DirectiveLines.{operands, line_fault, one_identifier}
-use Rattle.ppunit.specs.Probing.{is_has_include, probed, tokens_or, condition_tokens}
+use Rattle.ppunit.specs.DirectiveLines.{operands, one_identifier}
+use Rattle.ppunit.specs.Probing.{is_operator, Probes, ProbesBy, ProbesLine}
 use Rattle.ppexpr.specs.Conditions.{IsCondition}
 use Rattle.pptext.specs.Profiles.{is_gnu}
 use Rattle.pptext.specs.Tree.{hash_place}
 use Rattle.ppexpand.specs.declared.meter.Meter.{Meter}
-use Rattle.ppunit.proofs.HasIncludeNumbers.{unused}
+use Rattle.ppunit.proofs.HasIncludeNumbers.{none_applies, unprobed}
 use Rattle.ppunit.specs.code.Walk.{ContinuesIf, ContinuesBy, TakesBranch}
 
 pub decides_at : (search : Search) (row : ℕ) (s : State) (r : LogicalLine) (d : Directive) (tokens : List Token) (meter_after : Meter) (taken : Result Bool Fault)
@@ -34,16 +34,6 @@ pub decides_at : (search : Search) (row : ℕ) (s : State) (r : LogicalLine) (d 
 decides_at search row s r d tokens meter_after taken is same decides =
     subst (λ (z : Option Directive). Decides search row s (record { tokens = r.tokens; number = r.number; directive = z }) meter_after taken) (sym is)
     (subst (λ (ts : List Token). Decides search row s (directed d ts r.number) meter_after taken) same (decides r.number))
-
--- The value of a line's condition, or the fault of its tokens, is the decision of the line.
-pub decides_of : (search : Search) (row : ℕ) (s : State) (line : LogicalLine) (tokens : Result (List Token) Fault) (meter_after : Meter) (taken : Result Bool Fault)
-    → unmatched_quote line.tokens ≡ None
-    → question_by line.directive ≡ Some Value
-    → condition_tokens search row line.tokens ≡ tokens
-    → DecidesOf tokens s (hash_place line.tokens) meter_after taken
-    → Decides search row s line meter_after taken
-decides_of search row s line (Err f) meter_after taken q v e decides = Decides.names_no_header q v e decides
-decides_of search row s line (Ok tokens) meter_after taken q v e decides = Decides.evaluates q v e decides
 
 -- an unmatched quote
 pub decides_quote : (search : Search) (row : ℕ) (s : State) (d : Directive) (tokens : List Token) (number : ℕ) (f : Fault)
@@ -58,6 +48,14 @@ pub decides_name : (search : Search) (row : ℕ) (s : State) (d : Directive) (to
     → taken ≡ by_name wanted s.macros tokens (one_identifier (operands tokens))
     → Decides search row s (directed d tokens number) s.meter taken
 decides_name search row s d tokens number wanted taken q n is = Decides.tests_name q n (refl, is)
+
+-- a line that asks for a value
+pub decides_value : (search : Search) (row : ℕ) (s : State) (d : Directive) (tokens : List Token) (number : ℕ) (meter_after : Meter) (taken : Result Bool Fault)
+    → unmatched_quote tokens ≡ None
+    → question_of d ≡ Some Value
+    → DecidesByValue search row s tokens meter_after taken
+    → Decides search row s (directed d tokens number) meter_after taken
+decides_value search row s d tokens number meter_after taken q v value = Decides.evaluates q v value
 
 -- A line that asks, but not for a name, has a condition.
 pub asks_value : (q : Option Question) → IsSome q → ((wanted : Bool) → q ≢ Some (Defined wanted)) → q ≡ Some Value
@@ -88,45 +86,53 @@ elif_asks c e = absurd (cc)
 pub conditional : (d : Directive) → begins_elif_group d ≡ true → IsConditional d
 conditional d e = elif_asks (class_of d) e
 
--- ---- conditions, with or without uses of `__has_include`
+-- ---- conditions, with or without has-include operators
 
-unprobed_by : (search : Search) (row : ℕ) (f : Fault) (ts : List Token) (b : Bool) → (b && list_any is_has_include ts) ≡ false
-    → (if b then tokens_or f (probed search row ts) else Ok ts) ≡ Ok ts
-unprobed_by search row f ts true e = ap (tokens_or f) (unused search row ts e)
-unprobed_by search row f ts false e = refl
+unprobed_by : (search : Search) (row : ℕ) (line : List Token) (s : State) (ts : List Token) (b : Bool) → (b && list_any is_operator ts) ≡ false
+    → ProbesBy b search row line s ts s.meter (Ok ts)
+unprobed_by search row line s ts true e = unprobed search row line s ts (none_applies ts e)
+unprobed_by search row line s ts false e = (refl, refl)
 
--- Without uses of `__has_include`, the condition is that of the operands.
+-- Without operators, the condition is that of the operands.
 pub decides_unprobed : (search : Search) (row : ℕ) (s : State) (line ts : List Token) (profile : Profile) (at : Place) (meter_after : Meter) (taken : Result Bool Fault)
     → profile ≡ search.profile
     → ts ≡ operands line
     → at ≡ hash_place line
-    → false ≡ (is_gnu profile && list_any is_has_include ts)
+    → false ≡ (is_gnu profile && list_any is_operator ts)
     → IsCondition s.macros s.env at ts s.meter taken meter_after
-    → DecidesOf (condition_tokens search row line) s (hash_place line) meter_after taken
+    → DecidesByValue search row s line meter_after taken
 decides_unprobed search row s line ts profile at meter_after taken same_profile same_tokens same_place e condition =
-    let unprobed = unprobed_by search row (line_fault 30 line []) (operands line) (is_gnu search.profile)
-    (sym (e ∙ ap (λ (z : Profile). is_gnu z && list_any is_has_include ts) same_profile ∙ ap (λ (z : List Token). is_gnu search.profile && list_any is_has_include z) same_tokens)) in
-    subst (λ (z : Result (List Token) Fault). DecidesOf z s (hash_place line) meter_after taken) (sym unprobed)
+    let none = sym (e ∙ ap (λ (z : Profile). is_gnu z && list_any is_operator ts) same_profile ∙ ap (λ (z : List Token). is_gnu search.profile && list_any is_operator z) same_tokens) in
+    DecidesByValue.evaluated (unprobed_by search row line s (operands line) (is_gnu search.profile) none)
     (subst (λ (z : Place). IsCondition s.macros s.env z (operands line) s.meter taken meter_after) same_place
     (subst (λ (z : List Token). IsCondition s.macros s.env at z s.meter taken meter_after) same_tokens condition))
 
-probed_by : (search : Search) (row : ℕ) (f : Fault) (ts : List Token) (b : Bool) → (b && list_any is_has_include ts) ≡ true
-    → (if b then tokens_or f (probed search row ts) else Ok ts) ≡ tokens_or f (probed search row ts)
-probed_by search row f ts true e = refl
-probed_by search row f ts false e = absurd (false≢true e)
+probed_by : (search : Search) (row : ℕ) (line : List Token) (s : State) (ts : List Token) (b : Bool) (meter_after : Meter) (r : Result (List Token) Fault)
+    → (b && list_any is_operator ts) ≡ true
+    → Probes search row line s ts meter_after r
+    → ProbesBy b search row line s ts meter_after r
+probed_by search row line s ts true meter_after r e probes = probes
+probed_by search row line s ts false meter_after r e probes = absurd (false≢true e)
 
--- With uses of `__has_include`, the condition is that of the operands with a number for each use.
-pub decides_probed : (search : Search) (row : ℕ) (s : State) (line ts us : List Token) (profile : Profile) (at : Place) (meter_after : Meter) (taken : Result Bool Fault)
+-- With operators, the condition is that of the operands with numbers in their place.
+pub probes_line : (search : Search) (row : ℕ) (s : State) (line ts : List Token) (profile : Profile) (meter_after : Meter) (r : Result (List Token) Fault)
     → profile ≡ search.profile
     → ts ≡ operands line
+    → true ≡ (is_gnu profile && list_any is_operator ts)
+    → Probes search row line s (operands line) meter_after r
+    → ProbesLine search row s line meter_after r
+probes_line search row s line ts profile meter_after r same_profile same_tokens e probes =
+    let some = sym (e ∙ ap (λ (z : Profile). is_gnu z && list_any is_operator ts) same_profile ∙ ap (λ (z : List Token). is_gnu search.profile && list_any is_operator z) same_tokens) in
+    probed_by search row line s (operands line) (is_gnu search.profile) meter_after r some probes
+
+-- The value of the probed tokens, in the state after probing, decides.
+pub decides_probed : (search : Search) (row : ℕ) (s t : State) (line tokens : List Token) (at : Place) (meter_after : Meter) (taken : Result Bool Fault)
+    → t ≡ with_meter s t.meter
     → at ≡ hash_place line
-    → true ≡ (is_gnu profile && list_any is_has_include ts)
-    → Some us ≡ probed search row ts
-    → IsCondition s.macros s.env at us s.meter taken meter_after
-    → DecidesOf (condition_tokens search row line) s (hash_place line) meter_after taken
-decides_probed search row s line ts us profile at meter_after taken same_profile same_tokens same_place e is condition =
-    let tokens = probed_by search row (line_fault 30 line []) (operands line) (is_gnu search.profile)
-    (sym (e ∙ ap (λ (z : Profile). is_gnu z && list_any is_has_include ts) same_profile ∙ ap (λ (z : List Token). is_gnu search.profile && list_any is_has_include z) same_tokens)) in
-    let known = ap (tokens_or (line_fault 30 line [])) (is ∙ ap (λ (z : List Token). probed search row z) same_tokens) ∙ sym tokens in
-    subst (λ (z : Result (List Token) Fault). DecidesOf z s (hash_place line) meter_after taken) known
-    (subst (λ (z : Place). IsCondition s.macros s.env z us s.meter taken meter_after) same_place condition)
+    → ProbesLine search row s line t.meter (Ok tokens)
+    → IsCondition t.macros t.env at tokens t.meter taken meter_after
+    → DecidesByValue search row s line meter_after taken
+decides_probed search row s t line tokens at meter_after taken same same_place probes condition =
+    DecidesByValue.evaluated probes
+    (subst (λ (z : Place). IsCondition s.macros s.env z tokens t.meter taken meter_after) same_place
+    (subst (λ (z : State). IsCondition z.macros z.env at tokens t.meter taken meter_after) same condition))

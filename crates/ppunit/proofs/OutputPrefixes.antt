@@ -10,10 +10,9 @@ use Rattle.ppexpand.specs.Laws.{IsPrefix}
 use Rattle.ppunit.specs.Dependencies.{has_row}
 use Rattle.ppunit.specs.States.{State, Context, Progress, with_dependency}
 use Rattle.ppunit.specs.DirectiveLines.{text_tokens}
-use Rattle.ppunit.specs.LineControl.{presumed}
 use Rattle.ppunit.specs.Directives.{EmitsText, ExecutesDirective}
 use Rattle.ppunit.specs.Group.{ExecutesGroup, ExecutesBranches, ExecutesControlLine, ExecutesInclude, OpensFile}
-use Rattle.ppunit.specs.code.Effects.{line_effect, HasEffect}
+use Rattle.ppunit.specs.code.Effects.{expanding_effect, HasEffect}
 use Rattle.ppunit.proofs.DirectiveEffects.{effect_of}
 use Rattle.ppunit.specs.declared.units.Item.TheVariants as item
 use Rattle.ppunit.proofs.KeptItems.{kept-before}
@@ -43,8 +42,8 @@ depends s row = (same_beginning s.items, joined (has_row row s.deps))
 
 effect_before : {profile : Profile} {row : ℕ} {d : Option Directive} {s : State} {line : LogicalLine} {m : Progress} → HasEffect profile row d s line m → Before s m.state
 effect_before {s = s} (HasEffect.immediate {e = e} is gives) = subst (λ x. Before s x.state) (sym gives) (kept-before s.keeps s.items e.items, same_beginning s.deps)
-effect_before {s = s} {line = line} (HasEffect.expanding x is expands gives) =
-    subst (λ x. Before s x.state) (sym gives) (kept-before s.keeps s.items (line_effect s line x.fault (presumed x.tokens)).items, same_beginning s.deps)
+effect_before {d = d} {s = s} {line = line} (HasEffect.expanding x is expands gives) =
+    subst (λ x. Before s x.state) (sym gives) (kept-before s.keeps s.items (expanding_effect d s line x.fault x.tokens).items, same_beginning s.deps)
 
 pub control_by_before : (profile : Profile) (row : ℕ) (d : Option Directive) (s : State) (line : LogicalLine) (m : Progress) → ExecutesDirective profile row d s line m → Before s m.state
 control_by_before profile row d s line m g = effect_before (effect_of profile row d s line m g)

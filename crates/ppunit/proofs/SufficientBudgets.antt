@@ -1,29 +1,31 @@
 -- Lines, groups and units have the same effect with any sufficient budget, and leave the rest of the budget.
-use Rattle.std.proofs.Common.{◌≡◌, ℕ, zero, suc, ◌+◌, List, [], Bool, true, false, Option, Some, None, Result, Ok, Err, refl, ap, ◌∙◌, subst, arith, sym}
+use Rattle.std.proofs.Common.{◌≡◌, ℕ, zero, suc, ◌+◌, List, [], ◌∷◌, take, drop, codes, Bool, true, false, Option, Some, None, Result, Ok, Err, refl, ap, ◌∙◌, subst, arith, sym}
 use Rattle.pptext.specs.declared.tokens.Place.{Place}
 use Rattle.pptext.specs.declared.tokens.Token.{Token}
 use Rattle.pptext.specs.declared.tokens.Fault.{Fault}
 use Rattle.pptext.specs.declared.sources.Directive.{Directive}
 use Rattle.pptext.specs.declared.sources.Profile.{Profile}
+use Rattle.pptext.specs.Profiles.{is_gnu}
 use Rattle.pptext.specs.Lines.{LogicalLine}
 use Rattle.pptext.specs.Tree.{GroupParts, Branches, Done, End}
 use Rattle.ppexpand.specs.Expansion.{Expansion, count_expansion}
 use Rattle.ppexpand.specs.OpenInvocations.{open_expansion}
 use Rattle.ppexpand.specs.Budget.{with_budget, is_exhausted, is_used_up}
 use Rattle.ppexpand.proofs.BudgetLemmas.{Covers, larger, covers_rest, expansion_enough, without, covers_less}
+use Rattle.ppexpr.specs.Conditions.{count_condition}
 use Rattle.ppexpr.proofs.ConditionBudgets.{condition_enough}
 use Rattle.ppunit.specs.States.{State, Progress, with_meter, Search, Context, running, stopped}
-use Rattle.ppunit.specs.DirectiveLines.{operands, text_tokens}
-use Rattle.ppunit.specs.LineControl.{presumed}
-use Rattle.ppunit.specs.Including.{IncludeName, begins_with_header}
-use Rattle.ppunit.specs.Conditions.{Decides}
+use Rattle.ppunit.specs.DirectiveLines.{operands, text_tokens, line_fault}
+use Rattle.ppunit.specs.Including.{IncludeName, begins_with_header, name_of_header, name_of_expansion}
+use Rattle.ppunit.specs.Conditions.{Decides, DecidesByValue}
+use Rattle.ppunit.specs.Probing.{begins_with, NamesOperand, Probes, ProbesBy, ProbesLine}
 use Rattle.ppunit.specs.Directives.{meter_at_text, waits_in, text_emitted, EmitsText, NamesHeaderBy, NamesHeader, ExecutesDirective}
-use Rattle.ppunit.specs.Counts.{count_decides, count_names_header_by, count_names_header, count_control_by, count_group, count_branches, count_control, count_includes, count_opening}
-use Rattle.ppunit.proofs.BudgetSums.{asks_spends, decides_spends, count_run, run_spends, group_spends, branches_spend, control_spends, defines_spends}
+use Rattle.ppunit.specs.Counts.{count_decides, count_names_header_by, count_names_header, count_control_by, count_group, count_branches, count_control, count_includes, count_opening, count_names_operand, count_probes, count_probes_by, count_probes_line, count_value}
+use Rattle.ppunit.proofs.BudgetSums.{asks_spends, decides_spends, count_run, run_spends, group_spends, branches_spend, control_spends, defines_spends, operand_spends, probing_spends}
 use Rattle.ppunit.proofs.WaitingInvocations.{WaitsIn, run_waits, group_waits, branches_waits, control_waits, defines_waits}
 use Rattle.ppunit.proofs.TextBudgets.{counts_before, budget_at_text, covers_at_text, sum_at_text, expands_at_text, same_open}
 use Rattle.ppunit.specs.code.Effects.{affected, HasEffect}
-use Rattle.ppunit.proofs.DirectiveEffects.{effect_of, executes, count_effect, same_count, effect_of_any_meter, line_of_any_meter}
+use Rattle.ppunit.proofs.DirectiveEffects.{effect_of, executes, count_effect, same_count, effect_of_any_meter, tokens_of_any_meter, expanding_of_any_meter}
 use Rattle.pptext.specs.Tokens.{fault}
 use Rattle.ppexpand.specs.declared.meter.Meter.{Meter}
 use Rattle.ppunit.specs.Group.{ExecutesGroup, ExecutesBranches, ExecutesControlLine, ExecutesInclude, OpensFile}
@@ -57,12 +59,12 @@ run_enough profile s tokens m b is w g n sum =
     let same : open_expansion y.expands ≡ open_expansion g.expands = y.leaves_open ∙ same_open s.macros s.env at_text covers g.expands n all x in
     record { expanded = whole; expands = y.expands; is = ap (holding n) g.is ∙ ap (λ ts. text_emitted (budgeted s b) whole (waits_in profile ts)) (sym same) }
 
-asks_by_enough : (header : Bool) (s : State) (line : List Token) (meter_after : Meter) (include_name : Result IncludeName Fault) (b : ℕ) → Covers s.meter.remaining b
-    → (g : NamesHeaderBy header s line meter_after include_name) (n : ℕ)
-    → b ≡ count_names_header_by header s line meter_after include_name g + n
-    → NamesHeaderBy header (budgeted s b) line (with_budget (Some n) meter_after) include_name
-asks_by_enough true s line meter_after include_name b is g n sum = (same_rest n b s.meter meter_after (omega arith) g.0, g.1)
-asks_by_enough false s line meter_after include_name b is g n sum = record {
+asks_by_enough : (header : Bool) (name : Option IncludeName) (s : State) (line tokens : List Token) (meter_after : Meter) (include_name : Result IncludeName Fault) (b : ℕ) → Covers s.meter.remaining b
+    → (g : NamesHeaderBy header name s line tokens meter_after include_name) (n : ℕ)
+    → b ≡ count_names_header_by header name s line tokens meter_after include_name g + n
+    → NamesHeaderBy header name (budgeted s b) line tokens (with_budget (Some n) meter_after) include_name
+asks_by_enough true name s line tokens meter_after include_name b is g n sum = (same_rest n b s.meter meter_after (omega arith) g.0, g.1)
+asks_by_enough false name s line tokens meter_after include_name b is g n sum = record {
   expanded = record g.expanded { meter = with_budget (Some n) g.expanded.meter };
   expands = expansion_enough s.macros s.env b is g.expands n sum;
   leaves = ap (with_budget (Some n)) g.leaves;
@@ -73,7 +75,77 @@ pub asks_enough : (s : State) (line : List Token) (meter_after : Meter) (include
     → (g : NamesHeader s line meter_after include_name) (n : ℕ)
     → b ≡ count_names_header s line meter_after include_name g + n
     → NamesHeader (budgeted s b) line (with_budget (Some n) meter_after) include_name
-asks_enough s line meter_after include_name b is g n sum = asks_by_enough (begins_with_header (operands line)) s line meter_after include_name b is g n sum
+asks_enough s line meter_after include_name b is g n sum =
+    asks_by_enough (begins_with_header (operands line)) (name_of_header (operands line)) s line (operands line) meter_after include_name b is g n sum
+
+pub operand_enough : (s : State) (line operand : List Token) (meter_after : Meter) (include_name : Result IncludeName Fault) (b : ℕ) → Covers s.meter.remaining b
+    → (g : NamesOperand s line operand meter_after include_name) (n : ℕ)
+    → b ≡ count_names_operand s line operand meter_after include_name g + n
+    → NamesOperand (budgeted s b) line operand (with_budget (Some n) meter_after) include_name
+operand_enough s line operand meter_after include_name b is g n sum =
+    asks_by_enough (begins_with (codes "<") operand) (name_of_expansion operand) s line operand meter_after include_name b is g n sum
+
+-- If the budget covers the count of an operand and m more, the remaining budget covers m.
+pub operand_rest : (s : State) (line operand : List Token) (meter_after : Meter) (include_name : Result IncludeName Fault) (b m : ℕ) → Covers s.meter.remaining b
+    → (g : NamesOperand s line operand meter_after include_name)
+    → b ≡ count_names_operand s line operand meter_after include_name g + m
+    → Covers meter_after.remaining m
+operand_rest s line operand meter_after include_name b m is g sum =
+    covers_rest meter_after.remaining (count_names_operand s line operand meter_after include_name g) m is (operand_spends s line operand meter_after include_name g) sum
+
+pub probes_enough : {search : Search} {row : ℕ} {line : List Token} {s : State} {ts : List Token} {meter_after : Meter} {tokens : Result (List Token) Fault} (b : ℕ) → Covers s.meter.remaining b
+    → (g : Probes search row line s ts meter_after tokens) (n : ℕ)
+    → b ≡ count_probes g + n
+    → Probes search row line (budgeted s b) ts (with_budget (Some n) meter_after) tokens
+probes_enough {search} {row} {line} b is (Probes.no_tokens {s = s}) n sum =
+    let same : b ≡ n = omega arith in
+    subst (λ (k : ℕ). Probes search row line (budgeted s b) [] (with_budget (Some k) s.meter) (Ok [])) same Probes.no_tokens
+probes_enough b is (Probes.other e rest) n sum = Probes.other e (probes_enough b is rest n sum)
+probes_enough {search} {row} {line} b is (Probes.unclosed {s = s} {t = t} {ts = ts} e none) n sum =
+    let same : b ≡ n = omega arith in
+    subst (λ (k : ℕ). Probes search row line (budgeted s b) (t ∷ ts) (with_budget (Some k) s.meter) (Err (line_fault 30 line []))) same (Probes.unclosed e none)
+probes_enough {line = line} b is (Probes.operand_fault {s = s} {ts = ts} {end = end} {meter_after = meter_after} {f = f} e ends names) n sum =
+    Probes.operand_fault e ends (operand_enough s line (take end (drop 1 ts)) meter_after (Err f) b is names n sum)
+probes_enough {line = line} b is (Probes.operator {s = s} {ts = ts} {end = end} {meter_between = between} a e ends names rest) n sum =
+    let operand : List Token = take end (drop 1 ts) in
+    let more : ℕ = count_probes rest + n in
+    let all : b ≡ count_names_operand s line operand between (Ok a) names + more = omega arith in
+    let covers = operand_rest s line operand between (Ok a) b more is names all in
+    Probes.operator a e ends (operand_enough s line operand between (Ok a) b is names more all) (probes_enough more covers rest n refl)
+
+probes_by_enough : (probes : Bool) (search : Search) (row : ℕ) (line : List Token) (s : State) (ts : List Token) (meter_after : Meter) (tokens : Result (List Token) Fault) (b : ℕ)
+    → Covers s.meter.remaining b
+    → (g : ProbesBy probes search row line s ts meter_after tokens) (n : ℕ)
+    → b ≡ count_probes_by probes search row line s ts meter_after tokens g + n
+    → ProbesBy probes search row line (budgeted s b) ts (with_budget (Some n) meter_after) tokens
+probes_by_enough true search row line s ts meter_after tokens b is g n sum = probes_enough b is g n sum
+probes_by_enough false search row line s ts meter_after tokens b is g n sum = (same_rest n b s.meter meter_after (omega arith) g.0, g.1)
+
+pub probing_enough : (search : Search) (row : ℕ) (s : State) (line : List Token) (meter_after : Meter) (tokens : Result (List Token) Fault) (b : ℕ) → Covers s.meter.remaining b
+    → (g : ProbesLine search row s line meter_after tokens) (n : ℕ)
+    → b ≡ count_probes_line search row s line meter_after tokens g + n
+    → ProbesLine search row (budgeted s b) line (with_budget (Some n) meter_after) tokens
+probing_enough search row s line meter_after tokens b is g n sum =
+    probes_by_enough (is_gnu search.profile) search row line s (operands line) meter_after tokens b is g n sum
+
+pub probing_rest : (search : Search) (row : ℕ) (s : State) (line : List Token) (meter_after : Meter) (tokens : Result (List Token) Fault) (b m : ℕ) → Covers s.meter.remaining b
+    → (g : ProbesLine search row s line meter_after tokens)
+    → b ≡ count_probes_line search row s line meter_after tokens g + m
+    → Covers meter_after.remaining m
+probing_rest search row s line meter_after tokens b m is g sum =
+    covers_rest meter_after.remaining (count_probes_line search row s line meter_after tokens g) m is (probing_spends search row s line meter_after tokens g) sum
+
+value_enough : {search : Search} {row : ℕ} {s : State} {line : List Token} {meter_after : Meter} {taken : Result Bool Fault} (b : ℕ) → Covers s.meter.remaining b
+    → (g : DecidesByValue search row s line meter_after taken) (n : ℕ)
+    → b ≡ count_value g + n
+    → DecidesByValue search row (budgeted s b) line (with_budget (Some n) meter_after) taken
+value_enough {search} {row} {s} {line} {meter_after} b is (DecidesByValue.probing_fault {f = f} probes e) n sum =
+    DecidesByValue.probing_fault (probing_enough search row s line meter_after (Err f) b is probes n sum) e
+value_enough {search} {row} {s} {line} b is (DecidesByValue.evaluated {tokens = tokens} {meter_between = between} probes condition) n sum =
+    let more : ℕ = count_condition condition + n in
+    let all : b ≡ count_probes_line search row s line between (Ok tokens) probes + more = omega arith in
+    let covers = probing_rest search row s line between (Ok tokens) b more is probes all in
+    DecidesByValue.evaluated (probing_enough search row s line between (Ok tokens) b is probes more all) (condition_enough more covers condition n refl)
 
 pub decides_enough : {search : Search} {row : ℕ} {s : State} {line : LogicalLine} {meter_after : Meter} {taken : Result Bool Fault} (b : ℕ) → Covers s.meter.remaining b
     → (g : Decides search row s line meter_after taken) (n : ℕ)
@@ -81,8 +153,7 @@ pub decides_enough : {search : Search} {row : ℕ} {s : State} {line : LogicalLi
     → Decides search row (budgeted s b) line (with_budget (Some n) meter_after) taken
 decides_enough {s = s} {meter_after = meter_after} b is (Decides.unmatched q x) n sum = Decides.unmatched q (same_rest n b s.meter meter_after (omega arith) x.0, x.1)
 decides_enough {s = s} {meter_after = meter_after} b is (Decides.tests_name q m x) n sum = Decides.tests_name q m (same_rest n b s.meter meter_after (omega arith) x.0, x.1)
-decides_enough {s = s} {meter_after = meter_after} b is (Decides.names_no_header q v e x) n sum = Decides.names_no_header q v e (same_rest n b s.meter meter_after (omega arith) x.0, x.1)
-decides_enough b is (Decides.evaluates q v e x) n sum = Decides.evaluates q v e (condition_enough b is x n sum)
+decides_enough b is (Decides.evaluates q v x) n sum = Decides.evaluates q v (value_enough b is x n sum)
 
 effect_enough : (profile : Profile) (row : ℕ) (d : Option Directive) (s : State) (line : LogicalLine) (m : Progress) (b : ℕ) → Covers s.meter.remaining b
     → (e : HasEffect profile row d s line m) (n : ℕ)
@@ -92,8 +163,8 @@ effect_enough profile row d s line m b is (HasEffect.immediate {e = e} does give
     let same : n ≡ b = omega arith in
     HasEffect.immediate (effect_of_any_meter profile row d s line (with_budget (Some b) s.meter) ∙ does) (ap (holding n) gives ∙ ap (λ x. affected (budgeted s x) e) same)
 effect_enough profile row d s line m b is (HasEffect.expanding x does expands gives) n sum =
-    HasEffect.expanding (record x { meter = with_budget (Some n) x.meter }) does (expansion_enough s.macros s.env b is expands n sum)
-    (ap (holding n) gives ∙ ap (affected (with_meter s (with_budget (Some n) x.meter))) (line_of_any_meter s line x.fault (presumed x.tokens) (with_budget (Some b) s.meter)))
+    HasEffect.expanding (record x { meter = with_budget (Some n) x.meter }) (tokens_of_any_meter profile d s line (with_budget (Some b) s.meter) ∙ does) (expansion_enough s.macros s.env b is expands n sum)
+    (ap (holding n) gives ∙ ap (affected (with_meter s (with_budget (Some n) x.meter))) (expanding_of_any_meter d s line x.fault x.tokens (with_budget (Some b) s.meter)))
 
 pub control_by_enough : (profile : Profile) (row : ℕ) (d : Option Directive) (s : State) (line : LogicalLine) (m : Progress) (b : ℕ) → Covers s.meter.remaining b
     → (g : ExecutesDirective profile row d s line m) (n : ℕ)

@@ -1,6 +1,8 @@
 -- If the content of each file is known, a unit has a value.
-use Rattle.std.proofs.Common.{◌≡◌, ◌≢◌, ℕ, zero, suc, ◌+◌, ◌<◌, ◌≤◌, ◌⊎◌, inl, inr, Bool, true, false, List, [], ◌++◌, length, IsSome, Option, Some, None, Result, Ok, Err, refl, ap, ◌∙◌, arith, if◌then◌else◌}
+use Rattle.std.proofs.Common.{◌≡◌, ◌≢◌, ℕ, zero, suc, ◌+◌, ◌-◌, ◌<◌, ◌≤◌, ◌⊎◌, inl, inr, Bool, true, false, List, []}
+use Rattle.std.proofs.Common.{◌∷◌, ◌++◌, length, take, drop, codes, IsSome, Option, Some, None, Result, Ok, Err, refl, ap, ◌∙◌, arith, if◌then◌else◌}
 use Rattle.std.proofs.lemmas.Bool.{cases_lt}
+use Rattle.std.proofs.lemmas.List.{length-drop}
 use Rattle.pptext.specs.declared.tokens.Place.{Place}
 use Rattle.pptext.specs.declared.tokens.Token.{Token}
 use Rattle.pptext.specs.declared.tokens.Fault.{Fault}
@@ -12,6 +14,7 @@ use Rattle.pptext.specs.declared.directives.Question.TheVariants.{Defined, Value
 use Rattle.pptext.specs.declared.directives.Class.{Class}
 use Rattle.pptext.specs.declared.directives.Class.TheVariants as class
 use Rattle.pptext.specs.Classes.{class_of, question_in, class_by, question_by}
+use Rattle.pptext.specs.Profiles.{is_gnu}
 use Rattle.pptext.specs.Lines.{LogicalLine}
 use Rattle.pptext.specs.Sources.{Reads, IsSource}
 use Rattle.pptext.specs.Tokens.{fault}
@@ -34,12 +37,11 @@ use Rattle.ppunit.specs.Dependencies.{has_row}
 use Rattle.ppunit.specs.States.{State, Search, Context, search_of, Progress, running, stopped, output, with_meter, with_dependency, entering, leaving, with_one_spent}
 use Rattle.ppunit.specs.DirectiveLines.{operands, line_fault, one_identifier, text_tokens}
 use Rattle.ppunit.specs.Quotes.{unmatched_quote}
-use Rattle.ppunit.specs.LineControl.{presumed}
-use Rattle.ppunit.specs.Including.{IncludeName, begins_with_header, name_of_header, name_or, name_of_expansion_or, if_possible_name}
-use Rattle.ppunit.specs.Probing.{condition_tokens}
-use Rattle.ppunit.specs.Conditions.{Decides, by_name}
+use Rattle.ppunit.specs.Including.{IncludeName, begins_with_header, name_of_header, name_or, name_of_expansion_or, if_possible_name, name_of_expansion}
+use Rattle.ppunit.specs.Probing.{begins_with, applies, operand_end, NamesOperand, directory_before, has_file, number_for, after_first, Probes, ProbesBy, ProbesLine}
+use Rattle.ppunit.specs.Conditions.{Decides, by_name, DecidesByValue}
 use Rattle.ppunit.specs.Directives.{EmitsText, meter_at_text, waits_in, text_emitted, refusal, at_end, ExecutesDirective, NamesHeader, NamesHeaderBy, candidates_for, FindsFile, message, checks_quotes}
-use Rattle.ppunit.specs.code.Effects.{Effect, affected, immediate_effect, line_effect, HasEffect}
+use Rattle.ppunit.specs.code.Effects.{Effect, affected, immediate_effect, expanded_tokens, expanding_effect, HasEffect}
 use Rattle.ppunit.proofs.DirectiveEffects.{executes, control_has_effect}
 use Rattle.ppunit.specs.Group.{depth_limit, ExecutesGroup, ExecutesBranches, ExecutesControlLine, ExecutesInclude, OpensFile}
 use Rattle.ppunit.specs.Laws.{KnowsAll, HasSomeValue}
@@ -85,41 +87,101 @@ elif_conditional (Some d) e = elif_asks (class_of d) e
 
 -- ---- lines
 
+dropped_length : (k : ℕ) (ts : List Token) (n : ℕ) → length ts ≤ n → length (drop k (drop 1 ts)) ≤ n
+dropped_length k ts n few =
+    let one : length (drop 1 ts) ≡ length ts - 1 = length-drop 1 ts in
+    let all : length (drop k (drop 1 ts)) ≡ length (drop 1 ts) - k = length-drop k (drop 1 ts) in
+    omega arith
+
 module _ (expansions : SomeExpansion) (decisions : SomeDecision) where
   some_run : (profile : Profile) (s : State) (tokens : List Token) → (m : Progress) × EmitsText profile s tokens m
   some_run profile s tokens =
       let e = expansions s.macros s.env (meter_at_text s.waiting s.meter) (s.waiting ++ tokens) in
       (text_emitted s e.0 (waits_in profile (open_expansion e.1)), record { expanded = e.0; expands = e.1; is = refl })
 
-  asks_by : (header : Bool) (s : State) (line : List Token) → (include_name : Result IncludeName Fault) × (meter_after : Meter) × NamesHeaderBy header s line meter_after include_name
-  asks_by true s line = (name_or (line_fault 30 line []) (if_possible_name (name_of_header (operands line))), s.meter, (refl, refl))
-  asks_by false s line =
-      let e = expansions s.macros s.env s.meter (operands line) in
+  asks_by : (header : Bool) (name : Option IncludeName) (s : State) (line tokens : List Token)
+      → (include_name : Result IncludeName Fault) × (meter_after : Meter) × NamesHeaderBy header name s line tokens meter_after include_name
+  asks_by true name s line tokens = (name_or (line_fault 30 line []) (if_possible_name name), s.meter, (refl, refl))
+  asks_by false name s line tokens =
+      let e = expansions s.macros s.env s.meter tokens in
       (name_of_expansion_or (line_fault 30 line []) e.0.fault e.0.tokens, e.0.meter, record { expanded = e.0; expands = e.1; leaves = refl; is = refl })
 
   some_asking : (s : State) (line : List Token) → (include_name : Result IncludeName Fault) × (meter_after : Meter) × NamesHeader s line meter_after include_name
-  some_asking s line = asks_by (begins_with_header (operands line)) s line
+  some_asking s line = asks_by (begins_with_header (operands line)) (name_of_header (operands line)) s line (operands line)
+
+  -- the tokens with numbers for the has-include operators, by how many tokens there are at most
+  abbrev SomeProbed : Search → ℕ → List Token → State → List Token → Type 0
+  SomeProbed search row line s ts = (tokens : Result (List Token) Fault) × (meter_after : Meter) × Probes search row line s ts meter_after tokens
+
+  -- up to n tokens have a result
+  abbrev SomeFewer : Search → ℕ → List Token → ℕ → Type 0
+  SomeFewer search row line n = (s : State) (ts : List Token) → length ts ≤ n → SomeProbed search row line s ts
+
+  probed_named : (search : Search) (row : ℕ) (line : List Token) (n : ℕ) → SomeFewer search row line n
+      → (s : State) (t : Token) (ts : List Token) (end : ℕ) (include_name : Result IncludeName Fault) (between : Meter)
+      → length ts ≤ n
+      → applies t ts ≡ true
+      → operand_end (drop 1 ts) ≡ Some end
+      → NamesOperand s line (take end (drop 1 ts)) between include_name
+      → SomeProbed search row line s (t ∷ ts)
+  probed_named search row line n fewer s t ts end (Err f) between few e ends names = (Err f, between, Probes.operand_fault e ends names)
+  probed_named search row line n fewer s t ts end (Ok a) between few e ends names =
+      let x = fewer (with_meter s between) (drop (suc end) (drop 1 ts)) (dropped_length (suc end) ts n few) in
+      (after_first (number_for t (has_file search row (directory_before t s.directory) a)) x.0, x.1, Probes.operator a e ends names x.2)
+
+  probed_operator : (search : Search) (row : ℕ) (line : List Token) (n : ℕ) → SomeFewer search row line n
+      → (s : State) (t : Token) (ts : List Token) (end : Option ℕ)
+      → length ts ≤ n
+      → applies t ts ≡ true
+      → operand_end (drop 1 ts) ≡ end
+      → SomeProbed search row line s (t ∷ ts)
+  probed_operator search row line n fewer s t ts None few e ends = (Err (line_fault 30 line []), s.meter, Probes.unclosed e ends)
+  probed_operator search row line n fewer s t ts (Some end) few e ends =
+      let operand : List Token = take end (drop 1 ts) in
+      let x = asks_by (begins_with (codes "<") operand) (name_of_expansion operand) s line operand in
+      probed_named search row line n fewer s t ts end x.0 x.1 few e ends x.2
+
+  probed_first : (search : Search) (row : ℕ) (line : List Token) (n : ℕ) → SomeFewer search row line n
+      → (s : State) (t : Token) (ts : List Token) (b : Bool)
+      → length ts ≤ n
+      → applies t ts ≡ b
+      → SomeProbed search row line s (t ∷ ts)
+  probed_first search row line n fewer s t ts false few e = let x = fewer s ts few in (after_first t x.0, x.1, Probes.other e x.2)
+  probed_first search row line n fewer s t ts true few e = probed_operator search row line n fewer s t ts (operand_end (drop 1 ts)) few e refl
+
+  probed_from : (search : Search) (row : ℕ) (line : List Token) (n : ℕ) → SomeFewer search row line n
+  probed_from search row line n s [] few = (Ok [], s.meter, Probes.no_tokens)
+  probed_from search row line zero s (t ∷ ts) few = absurd (omega arith)
+  probed_from search row line (suc n) s (t ∷ ts) few =
+      probed_first search row line n (λ state tokens fits. probed_from search row line n state tokens fits) s t ts (applies t ts) (omega arith) refl
+
+  probing_by : (probes : Bool) (search : Search) (row : ℕ) (line : List Token) (s : State) (ts : List Token)
+      → (tokens : Result (List Token) Fault) × (meter_after : Meter) × ProbesBy probes search row line s ts meter_after tokens
+  probing_by true search row line s ts = probed_from search row line (length ts) s ts (omega arith)
+  probing_by false search row line s ts = (Ok ts, s.meter, (refl, refl))
 
   -- a decision, with the budget that is left
   abbrev SomeDecided : Search → ℕ → State → LogicalLine → Type 0
   SomeDecided search row s line = (taken : Result Bool Fault) × (meter_after : Meter) × Decides search row s line meter_after taken
 
-  evaluated : (search : Search) (row : ℕ) (s : State) (line : LogicalLine) (tokens : Result (List Token) Fault)
+  evaluated : (search : Search) (row : ℕ) (s : State) (line : LogicalLine) (tokens : Result (List Token) Fault) (between : Meter)
       → unmatched_quote line.tokens ≡ None
       → question_by line.directive ≡ Some Value
-      → condition_tokens search row line.tokens ≡ tokens
+      → ProbesLine search row s line.tokens between tokens
       → SomeDecided search row s line
-  evaluated search row s line (Err f) q v e = (Err f, s.meter, Decides.names_no_header q v e (refl, refl))
-  evaluated search row s line (Ok tokens) q v e =
-      let c = decisions s.macros s.env (hash_place line.tokens) tokens s.meter in
-      (c.0, c.1, Decides.evaluates q v e c.2)
+  evaluated search row s line (Err f) between q v probes = (Err f, between, Decides.evaluates q v (DecidesByValue.probing_fault probes refl))
+  evaluated search row s line (Ok tokens) between q v probes =
+      let c = decisions s.macros s.env (hash_place line.tokens) tokens between in
+      (c.0, c.1, Decides.evaluates q v (DecidesByValue.evaluated probes c.2))
 
   asked : (search : Search) (row : ℕ) (s : State) (line : LogicalLine) (question : Option Question)
       → unmatched_quote line.tokens ≡ None
       → question_by line.directive ≡ question
       → IsSome question
       → SomeDecided search row s line
-  asked search row s line (Some Value) q v has = evaluated search row s line (condition_tokens search row line.tokens) q v refl
+  asked search row s line (Some Value) q v has =
+      let x = probing_by (is_gnu search.profile) search row line.tokens s (operands line.tokens) in
+      evaluated search row s line x.0 x.1 q v x.2
   asked search row s line (Some (Defined wanted)) q n has =
       (by_name wanted s.macros line.tokens (one_identifier (operands line.tokens)), s.meter, Decides.tests_name q n (refl, refl))
   asked search row s line None q v has = absurd (cc)
@@ -134,12 +196,12 @@ module _ (expansions : SomeExpansion) (decisions : SomeDecision) where
   control_gives : (profile : Profile) (row : ℕ) (d : Directive) → class_of d ≡ class.Control → (s : State) (line : LogicalLine) → (m : Progress) × ExecutesDirective profile row (Some d) s line m
   control_gives profile row d is s line = gives (control_has_effect profile row d s line is)
     where
-      gives : ((e : Effect) × (immediate_effect profile row (Some d) s line ≡ Some e)) ⊎ (Some d ≡ Some Line) → (m : Progress) × ExecutesDirective profile row (Some d) s line m
+      gives : ((e : Effect) × (immediate_effect profile row (Some d) s line ≡ Some e)) ⊎ ((tokens : List Token) × (expanded_tokens profile (Some d) s line ≡ Some tokens)) → (m : Progress) × ExecutesDirective profile row (Some d) s line m
       gives (inl (e, does)) = (affected s e, executes profile row (Some d) s line (affected s e) (HasEffect.immediate does refl))
-      gives (inr line_is) =
-          let x = expansions s.macros s.env s.meter (operands line.tokens) in
-          let m = affected (with_meter s x.0.meter) (line_effect s line x.0.fault (presumed x.0.tokens)) in
-          (m, executes profile row (Some d) s line m (HasEffect.expanding x.0 line_is x.1 refl))
+      gives (inr (tokens, is)) =
+          let x = expansions s.macros s.env s.meter tokens in
+          let m = affected (with_meter s x.0.meter) (expanding_effect (Some d) s line x.0.fault x.0.tokens) in
+          (m, executes profile row (Some d) s line m (HasEffect.expanding x.0 is x.1 refl))
 
   data Sort (profile : Profile) (row : ℕ) (d : Option Directive) : Type 0 where
     refuses : class_by d ≡ Some class.Error → Sort profile row d
@@ -174,7 +236,7 @@ module _ (expansions : SomeExpansion) (decisions : SomeDecision) where
       finding row from s line meter_after a asking None finds =
           (stopped (with_meter s meter_after) (line_fault 31 line.tokens a.name), ExecutesInclude.missing a asking finds)
       finding row from s line meter_after a asking (Some found) finds =
-          let within : found.0 < length context.names = first_within context.names (candidates_for context row from a) (Some found) finds in
+          let within : found.0 < length context.names = first_within context.names (candidates_for (search_of context) row from a) (Some found) finds in
           let o = deeper (hash_place line.tokens) (with_meter s meter_after) found.0 (Some found.1) within in
           (o.0, ExecutesInclude.included a found asking finds o.1)
 
@@ -183,7 +245,7 @@ module _ (expansions : SomeExpansion) (decisions : SomeDecision) where
           → (m : Progress) × ExecutesInclude context depth row from s line m
       including row from s line meter_after (Err f) asking = (stopped (with_meter s meter_after) f, ExecutesInclude.operand_fault asking)
       including row from s line meter_after (Ok a) asking =
-          let r = rows context.names (candidates_for context row from a) in
+          let r = rows context.names (candidates_for (search_of context) row from a) in
           finding row from s line meter_after a asking r.0 r.1
 
       some_include : (row : ℕ) (from : Option ℕ) (s : State) (line : LogicalLine) → (m : Progress) × ExecutesInclude context depth row from s line m

@@ -1,10 +1,11 @@
 -- Whether items are kept changes nothing else.
-use Rattle.std.proofs.Common.{◌≡◌, ◌∙◌, ℕ, List, Bool, true, false, Option, Some, None, Result, Ok, Err, refl, ap, map}
+use Rattle.std.proofs.Common.{take, drop, codes, ◌≡◌, ◌∙◌, ℕ, List, Bool, true, false, Option, Some, None, Result, Ok, Err, refl, ap, map}
 use Rattle.pptext.specs.declared.tokens.Token.{Token}
 use Rattle.pptext.specs.declared.tokens.Fault.{Fault}
 use Rattle.pptext.specs.declared.tokens.Place.{Place}
 use Rattle.pptext.specs.declared.sources.Profile.{Profile}
 use Rattle.pptext.specs.declared.sources.Directive.{Directive}
+use Rattle.pptext.specs.Profiles.{is_gnu}
 use Rattle.pptext.specs.Lines.{LogicalLine}
 use Rattle.pptext.specs.Tree.{GroupParts, Branches}
 use Rattle.ppexpand.specs.declared.meter.Meter.{Meter}
@@ -12,16 +13,17 @@ use Rattle.ppunit.specs.declared.units.Item.{Item}
 use Rattle.ppunit.specs.declared.units.Item.TheVariants as item
 use Rattle.ppunit.specs.States.{State, Search, Context, Progress, kept, with_meter}
 use Rattle.ppunit.specs.DirectiveLines.{text_tokens}
-use Rattle.ppunit.specs.Conditions.{Decides}
-use Rattle.ppunit.specs.Including.{IncludeName}
-use Rattle.ppunit.specs.Directives.{EmitsText, ExecutesDirective, NamesHeaderBy}
+use Rattle.ppunit.specs.Conditions.{Decides, DecidesByValue}
+use Rattle.ppunit.specs.Including.{IncludeName, name_of_header, name_of_expansion}
+use Rattle.ppunit.specs.Directives.{EmitsText, ExecutesDirective, NamesHeaderBy, expanded_operands}
+use Rattle.ppunit.specs.Probing.{begins_with, Probes, ProbesBy}
 use Rattle.ppunit.specs.DirectiveLines.{operands}
 use Rattle.ppunit.specs.Including.{begins_with_header}
 use Rattle.ppunit.specs.Group.{ExecutesGroup, ExecutesBranches, ExecutesControlLine, ExecutesInclude, OpensFile}
 use Rattle.ppunit.specs.Unit.{Defines, unread, processed, Translates, definitions_fault, translated}
-use Rattle.pptext.specs.declared.sources.Directive.TheVariants.{Null, Define, Undef, Pragma, Unknown}
+use Rattle.pptext.specs.declared.sources.Directive.TheVariants.{Null, Define, Undef, Line, Pragma, Unknown}
 use Rattle.ppunit.specs.LineControl.{Presumed, presumed}
-use Rattle.ppunit.specs.code.Effects.{Effect, affected, immediate_effect, line_effect, HasEffect}
+use Rattle.ppunit.specs.code.Effects.{Effect, affected, immediate_pragma, immediate_effect, line_effect, expanded_tokens, expanding_effect, HasEffect}
 use Rattle.ppunit.proofs.DirectiveEffects.{effect_of, executes}
 
 -- the state with other items, kept or not
@@ -38,26 +40,57 @@ module _ (keeps : Bool) where
       let more : List Item = kept keeps items (map item.Token g.expanded.tokens) in
       (more, record { expanded = g.expanded; expands = g.expands; is = ap (with_items keeps more) g.is })
 
+  asks_by_any : (header : Bool) (name : Option IncludeName) (s : State) (line tokens : List Token) (meter_after : Meter) (include_name : Result IncludeName Fault) (items : List Item)
+      → NamesHeaderBy header name s line tokens meter_after include_name
+      → NamesHeaderBy header name (holding_items keeps items s) line tokens meter_after include_name
+  asks_by_any true name s line tokens meter_after include_name items g = g
+  asks_by_any false name s line tokens meter_after include_name items g = record { expanded = g.expanded; expands = g.expands; leaves = g.leaves; is = g.is }
+
+  probes_any : {search : Search} {row : ℕ} {line : List Token} {s : State} {ts : List Token} {meter_after : Meter} {tokens : Result (List Token) Fault} (items : List Item)
+      → Probes search row line s ts meter_after tokens
+      → Probes search row line (holding_items keeps items s) ts meter_after tokens
+  probes_any items Probes.no_tokens = Probes.no_tokens
+  probes_any items (Probes.other e rest) = Probes.other e (probes_any items rest)
+  probes_any items (Probes.unclosed e none) = Probes.unclosed e none
+  probes_any {line = line} items (Probes.operand_fault {s = s} {ts = ts} {end = end} {meter_after = meter_after} {f = f} e ends names) =
+      let operand : List Token = take end (drop 1 ts) in
+      Probes.operand_fault e ends (asks_by_any (begins_with (codes "<") operand) (name_of_expansion operand) s line operand meter_after (Err f) items names)
+  probes_any {line = line} items (Probes.operator {s = s} {ts = ts} {end = end} {meter_between = between} a e ends names rest) =
+      let operand : List Token = take end (drop 1 ts) in
+      Probes.operator a e ends (asks_by_any (begins_with (codes "<") operand) (name_of_expansion operand) s line operand between (Ok a) items names) (probes_any items rest)
+
+  probing_any : (probes : Bool) (search : Search) (row : ℕ) (line : List Token) (s : State) (ts : List Token) (meter_after : Meter) (tokens : Result (List Token) Fault) (items : List Item)
+      → ProbesBy probes search row line s ts meter_after tokens
+      → ProbesBy probes search row line (holding_items keeps items s) ts meter_after tokens
+  probing_any true search row line s ts meter_after tokens items g = probes_any items g
+  probing_any false search row line s ts meter_after tokens items g = g
+
+  value_any : {search : Search} {row : ℕ} {s : State} {line : List Token} {meter_after : Meter} {taken : Result Bool Fault} (items : List Item)
+      → DecidesByValue search row s line meter_after taken
+      → DecidesByValue search row (holding_items keeps items s) line meter_after taken
+  value_any {search} {row} {s} {line} {meter_after} items (DecidesByValue.probing_fault {f = f} probes e) =
+      DecidesByValue.probing_fault (probing_any (is_gnu search.profile) search row line s (operands line) meter_after (Err f) items probes) e
+  value_any {search} {row} {s} {line} items (DecidesByValue.evaluated {tokens = tokens} {meter_between = between} probes condition) =
+      DecidesByValue.evaluated (probing_any (is_gnu search.profile) search row line s (operands line) between (Ok tokens) items probes) condition
+
   decides_any : {search : Search} {row : ℕ} {s : State} {line : LogicalLine} {meter_after : Meter} {taken : Result Bool Fault} (items : List Item)
       → Decides search row s line meter_after taken
       → Decides search row (holding_items keeps items s) line meter_after taken
   decides_any items (Decides.unmatched q d) = Decides.unmatched q d
   decides_any items (Decides.tests_name q k d) = Decides.tests_name q k d
-  decides_any items (Decides.names_no_header q k e d) = Decides.names_no_header q k e d
-  decides_any items (Decides.evaluates q k e d) = Decides.evaluates q k e d
+  decides_any items (Decides.evaluates q k d) = Decides.evaluates q k (value_any items d)
 
-  asks_by_any : (header : Bool) (s : State) (line : List Token) (meter_after : Meter) (include_name : Result IncludeName Fault) (items : List Item)
-      → NamesHeaderBy header s line meter_after include_name
-      → NamesHeaderBy header (holding_items keeps items s) line meter_after include_name
-  asks_by_any true s line meter_after include_name items g = g
-  asks_by_any false s line meter_after include_name items g = record { expanded = g.expanded; expands = g.expands; leaves = g.leaves; is = g.is }
+  pragma_of_any_items : (os : Option (List Token)) (profile : Profile) (row : ℕ) (s : State) (line : List Token) (items : List Item)
+      → immediate_pragma os profile row (holding_items keeps items s) line ≡ immediate_pragma os profile row s line
+  pragma_of_any_items None profile row s line items = refl
+  pragma_of_any_items (Some tokens) profile row s line items = refl
 
   effect_of_any_items : (profile : Profile) (row : ℕ) (d : Option Directive) (s : State) (line : LogicalLine) (items : List Item)
       → immediate_effect profile row d (holding_items keeps items s) line ≡ immediate_effect profile row d s line
   effect_of_any_items profile row (Some Null) s line items = refl
   effect_of_any_items profile row (Some Define) s line items = refl
   effect_of_any_items profile row (Some Undef) s line items = refl
-  effect_of_any_items profile row (Some Pragma) s line items = refl
+  effect_of_any_items profile row (Some Pragma) s line items = pragma_of_any_items (expanded_operands profile s.macros (operands line.tokens)) profile row s line.tokens items
   effect_of_any_items profile row (Some Unknown) s line items = refl
   effect_of_any_items profile row d s line items = refl
 
@@ -66,6 +99,17 @@ module _ (keeps : Bool) where
   line_of_any_items s line None None items = refl
   line_of_any_items s line None (Some p) items = refl
 
+  tokens_of_any_items : (profile : Profile) (d : Option Directive) (s : State) (line : LogicalLine) (items : List Item) → expanded_tokens profile d (holding_items keeps items s) line ≡ expanded_tokens profile d s line
+  tokens_of_any_items profile (Some Line) s line items = refl
+  tokens_of_any_items profile (Some Pragma) s line items = refl
+  tokens_of_any_items profile d s line items = refl
+
+  expanding_of_any_items : (d : Option Directive) (s : State) (line : LogicalLine) (f : Option Fault) (tokens : List Token) (items : List Item)
+      → expanding_effect d s line f tokens ≡ expanding_effect d (holding_items keeps items s) line f tokens
+  expanding_of_any_items (Some Pragma) s line (Some f) tokens items = refl
+  expanding_of_any_items (Some Pragma) s line None tokens items = refl
+  expanding_of_any_items d s line f tokens items = line_of_any_items s line f (presumed tokens) items
+
   effect_any : (profile : Profile) (row : ℕ) (d : Option Directive) (s : State) (line : LogicalLine) (m : Progress) (items : List Item)
       → HasEffect profile row d s line m
       → (more : List Item) × HasEffect profile row d (holding_items keeps items s) line (with_items keeps more m)
@@ -73,11 +117,11 @@ module _ (keeps : Bool) where
       let more : List Item = kept keeps items e.items in
       (more, HasEffect.immediate (effect_of_any_items profile row d s line items ∙ does) (ap (with_items keeps more) gives))
   effect_any profile row d s line m items (HasEffect.expanding x does expands gives) =
-      let e : Effect = line_effect s line x.fault (presumed x.tokens) in
+      let e : Effect = expanding_effect d s line x.fault x.tokens in
       let more : List Item = kept keeps items e.items in (
         more,
-        HasEffect.expanding x does expands
-            (ap (with_items keeps more) gives ∙ ap (affected (with_meter (holding_items keeps items s) x.meter)) (line_of_any_items s line x.fault (presumed x.tokens) items)),
+        HasEffect.expanding x (tokens_of_any_items profile d s line items ∙ does) expands
+            (ap (with_items keeps more) gives ∙ ap (affected (with_meter (holding_items keeps items s) x.meter)) (expanding_of_any_items d s line x.fault x.tokens items)),
       )
 
   directive_any : (profile : Profile) (row : ℕ) (d : Option Directive) (s : State) (line : LogicalLine) (m : Progress) (items : List Item)
@@ -145,12 +189,12 @@ module _ (keeps : Bool) where
           → ExecutesInclude context depth row previous s line m
           → (more : List Item) × ExecutesInclude context depth row previous (holding_items keeps items s) line (with_items keeps more m)
       includes_any items (ExecutesInclude.operand_fault {s = s} {line = line} {meter_after = meter_after} {f = f} asks) =
-          (items, ExecutesInclude.operand_fault (asks_by_any (begins_with_header (operands line.tokens)) s line.tokens meter_after (Err f) items asks))
+          (items, ExecutesInclude.operand_fault (asks_by_any (begins_with_header (operands line.tokens)) (name_of_header (operands line.tokens)) s line.tokens (operands line.tokens) meter_after (Err f) items asks))
       includes_any items (ExecutesInclude.missing {s = s} {line = line} {meter_after = meter_after} a asks finds) =
-          (items, ExecutesInclude.missing a (asks_by_any (begins_with_header (operands line.tokens)) s line.tokens meter_after (Ok a) items asks) finds)
+          (items, ExecutesInclude.missing a (asks_by_any (begins_with_header (operands line.tokens)) (name_of_header (operands line.tokens)) s line.tokens (operands line.tokens) meter_after (Ok a) items asks) finds)
       includes_any items (ExecutesInclude.included {s = s} {line = line} {meter_after = meter_after} a found asks finds opens) =
           let here = opened_any items opens in
-          (here.0, ExecutesInclude.included a found (asks_by_any (begins_with_header (operands line.tokens)) s line.tokens meter_after (Ok a) items asks) finds here.1)
+          (here.0, ExecutesInclude.included a found (asks_by_any (begins_with_header (operands line.tokens)) (name_of_header (operands line.tokens)) s line.tokens (operands line.tokens) meter_after (Ok a) items asks) finds here.1)
 
       opened_any : {depth row : ℕ} {directory : Option ℕ} {at : Place} {s : State} {m : Progress} (items : List Item)
           → OpensFile context depth at s row directory m

@@ -1,5 +1,5 @@
 -- Without a budget no line and no unit ends in fault 35.
-use Rattle.std.proofs.Common.{◌≡◌, ◌≢◌, ℕ, List, [], ◌∷◌, Bool, true, false, Option, Some, None, Result, Ok, Err, refl, sym, subst, arith, if◌then◌else◌, ap, ◌∙◌}
+use Rattle.std.proofs.Common.{take, drop, codes, ◌≡◌, ◌≢◌, ℕ, List, [], ◌∷◌, Bool, true, false, Option, Some, None, Result, Ok, Err, refl, sym, subst, arith, if◌then◌else◌, ap, ◌∙◌}
 use Rattle.pptext.specs.declared.tokens.Place.{Place}
 use Rattle.pptext.specs.declared.tokens.Token.{Token}
 use Rattle.pptext.specs.declared.tokens.Fault.{Fault}
@@ -23,15 +23,15 @@ use Rattle.ppunit.specs.States.{State, Context, Progress, Search}
 use Rattle.ppunit.specs.DirectiveLines.{operands, line_fault, one_identifier, text_tokens}
 use Rattle.ppunit.specs.Quotes.{unmatched_quote}
 use Rattle.ppunit.specs.Including.{IncludeName, begins_with_header, name_of_header, name_of_expansion, if_possible_name, name_or, name_of_expansion_or}
-use Rattle.ppunit.specs.Probing.{probed, tokens_or, condition_tokens}
-use Rattle.ppunit.specs.Conditions.{by_name, Decides}
+use Rattle.ppunit.specs.Probing.{begins_with, directory_before, has_file, number_for, after_first, Probes, ProbesBy}
+use Rattle.ppunit.specs.Conditions.{by_name, DecidesByValue, Decides}
 use Rattle.ppunit.specs.Directives as directives
 use Rattle.ppunit.specs.Directives.{EmitsText, NamesHeaderBy, NamesHeader, ExecutesDirective, waits_in, fault_unless, waiting_fault, is_refused, refusal, or_fault}
 use Rattle.ppunit.specs.Group.{ExecutesGroup, ExecutesBranches, ExecutesControlLine, ExecutesInclude, OpensFile}
 use Rattle.ppunit.specs.Unit.{Defines, context_of_unit, unread, processed, Translates, definitions_fault, translated}
-use Rattle.ppunit.specs.Counts.{count_decides, count_names_header, count_control_by}
+use Rattle.ppunit.specs.Counts.{count_decides, count_names_header, count_names_operand, count_probes_line, count_control_by}
 use Rattle.ppunit.proofs.DirectiveEffects.{IsOther, effect_of, effect_other}
-use Rattle.ppunit.proofs.BudgetSums.{still_none, asks_spends, decides_spends, control_by_spends}
+use Rattle.ppunit.proofs.BudgetSums.{still_none, asks_spends, operand_spends, probing_spends, decides_spends, control_by_spends}
 use Rattle.ppunit.proofs.TextBudgets.{none_at_text}
 use Rattle.ppexpand.specs.Budget.{is_exhausted, is_used_up, one_less}
 use Rattle.ppunit.specs.Capped.{OnlyBudgetsRefuse}
@@ -193,26 +193,9 @@ by_name_other wanted macros line (Some name) = tt
 by_name_decides : (wanted : Bool) (macros : Macros) (line : List Token) (name : Option (List ℕ)) (f : Fault) → Err f ≡ by_name wanted macros line name → f.number ≢ 35
 by_name_decides wanted macros line name f e = subst IsOtherOr (sym e) (by_name_other wanted macros line name)
 
-tokens_or_other : (f : Fault) (tokens : Option (List Token)) → f.number ≢ 35 → IsOtherOr (tokens_or f tokens)
-tokens_or_other f None h = h
-tokens_or_other f (Some ts) h = tt
-
-condition_tokens_other : (search : Search) (row : ℕ) (line : List Token) → IsOtherOr (condition_tokens search row line)
-condition_tokens_other search row line = chosen (is_gnu search.profile)
-  where
-    chosen : (b : Bool) → IsOtherOr (if b then tokens_or (line_fault 30 line []) (probed search row (operands line)) else Ok (operands line))
-    chosen true = tokens_or_other (line_fault 30 line []) (probed search row (operands line)) (λ e. absurd (omega arith))
-    chosen false = tt
-
 -- the fault of the result of a line, whose alternatives are not 35
 of_result : {A : Type 0} {f : Fault} (r : Result A Fault) → r ≡ Err f → IsOtherOr r → f.number ≢ 35
 of_result r is h = subst IsOtherOr is h
-
-pub decides_other : {search : Search} {row : ℕ} {s : State} {line : LogicalLine} {meter_after : Meter} {f : Fault} → s.meter.remaining ≡ None → Decides search row s line meter_after (Err f) → f.number ≢ 35
-decides_other {line = line} is (Decides.unmatched {f = g} q x) = of_result (Err g) (sym x.1) (subst IsOther q (quote_other line.tokens))
-decides_other {s = s} {line = line} {f = f} is (Decides.tests_name {wanted = wanted} q n x) = by_name_decides wanted s.macros line.tokens (one_identifier (operands line.tokens)) f x.1
-decides_other {search = search} {row = row} {line = line} is (Decides.names_no_header {f = g} q v e x) = of_result (Err g) (sym x.1) (subst IsOtherOr e (condition_tokens_other search row line.tokens))
-decides_other is (Decides.evaluates q v e x) = condition_never_refused is x
 
 asked_or_other : (f : Fault) (a : Option IncludeName) → f.number ≢ 35 → IsOtherOr (name_or f a)
 asked_or_other f None h = h
@@ -222,16 +205,57 @@ asked_behind_other : (f : Fault) (o : Option Fault) (ts : List Token) → f.numb
 asked_behind_other f (Some g) ts h k = k
 asked_behind_other f None ts h k = asked_or_other f (if_possible_name (name_of_expansion ts)) h
 
-asks_by_other : (header : Bool) (s : State) (line : List Token) (meter_after : Meter) (f : Fault) → s.meter.remaining ≡ None → NamesHeaderBy header s line meter_after (Err f) → f.number ≢ 35
-asks_by_other true s line meter_after f is g = subst IsOtherOr (sym g.1) (asked_or_other (line_fault 30 line []) (if_possible_name (name_of_header (operands line))) (λ e. absurd (omega arith)))
-asks_by_other false s line meter_after f is g =
+asks_by_other : (header : Bool) (name : Option IncludeName) (s : State) (line tokens : List Token) (meter_after : Meter) (f : Fault) → s.meter.remaining ≡ None
+    → NamesHeaderBy header name s line tokens meter_after (Err f)
+    → f.number ≢ 35
+asks_by_other true name s line tokens meter_after f is g = subst IsOtherOr (sym g.1) (asked_or_other (line_fault 30 line []) (if_possible_name name) (λ e. absurd (omega arith)))
+asks_by_other false name s line tokens meter_after f is g =
     subst IsOtherOr (sym g.is) (asked_behind_other (line_fault 30 line []) g.expanded.fault g.expanded.tokens (λ e. absurd (omega arith)) (expansion_other is g.expands))
 
+after_first_other : (t : Token) (r : Result (List Token) Fault) → IsOtherOr r → IsOtherOr (after_first t r)
+after_first_other t (Err f) h = h
+after_first_other t (Ok ts) h = tt
+
+probes_other : {search : Search} {row : ℕ} {line : List Token} {s : State} {ts : List Token} {meter_after : Meter} {tokens : Result (List Token) Fault}
+    → s.meter.remaining ≡ None
+    → Probes search row line s ts meter_after tokens
+    → IsOtherOr tokens
+probes_other is Probes.no_tokens = tt
+probes_other is (Probes.other {t = t} {tokens = tokens} e rest) = after_first_other t tokens (probes_other is rest)
+probes_other is (Probes.unclosed e none) = λ e. absurd (omega arith)
+probes_other {line = line} is (Probes.operand_fault {s = s} {ts = ts} {end = end} {meter_after = meter_after} {f = f} e ends names) =
+    let operand : List Token = take end (drop 1 ts) in
+    asks_by_other (begins_with (codes "<") operand) (name_of_expansion operand) s line operand meter_after f is names
+probes_other {search} {row} {line} is (Probes.operator {s = s} {t = t} {ts = ts} {end = end} {meter_between = between} {tokens = tokens} a e ends names rest) =
+    let operand : List Token = take end (drop 1 ts) in
+    let none : between.remaining ≡ None = still_none (count_names_operand s line operand between (Ok a) names) is (operand_spends s line operand between (Ok a) names) in
+    after_first_other (number_for t (has_file search row (directory_before t s.directory) a)) tokens (probes_other none rest)
+
+probes_by_other : (probes : Bool) (search : Search) (row : ℕ) (line : List Token) (s : State) (ts : List Token) (meter_after : Meter) (tokens : Result (List Token) Fault)
+    → s.meter.remaining ≡ None
+    → ProbesBy probes search row line s ts meter_after tokens
+    → IsOtherOr tokens
+probes_by_other true search row line s ts meter_after tokens is g = probes_other is g
+probes_by_other false search row line s ts meter_after tokens is g = subst IsOtherOr (sym g.1) tt
+
+value_other : {search : Search} {row : ℕ} {s : State} {line : List Token} {meter_after : Meter} {f : Fault} → s.meter.remaining ≡ None
+    → DecidesByValue search row s line meter_after (Err f)
+    → f.number ≢ 35
+value_other {search} {row} {s} {line} {meter_after} is (DecidesByValue.probing_fault {f = g} probes e) =
+    of_result (Err g) (sym e) (probes_by_other (is_gnu search.profile) search row line s (operands line) meter_after (Err g) is probes)
+value_other {search} {row} {s} {line} is (DecidesByValue.evaluated {tokens = tokens} {meter_between = between} probes condition) =
+    condition_never_refused (still_none (count_probes_line search row s line between (Ok tokens) probes) is (probing_spends search row s line between (Ok tokens) probes)) condition
+
+pub decides_other : {search : Search} {row : ℕ} {s : State} {line : LogicalLine} {meter_after : Meter} {f : Fault} → s.meter.remaining ≡ None → Decides search row s line meter_after (Err f) → f.number ≢ 35
+decides_other {line = line} is (Decides.unmatched {f = g} q x) = of_result (Err g) (sym x.1) (subst IsOther q (quote_other line.tokens))
+decides_other {s = s} {line = line} {f = f} is (Decides.tests_name {wanted = wanted} q n x) = by_name_decides wanted s.macros line.tokens (one_identifier (operands line.tokens)) f x.1
+decides_other is (Decides.evaluates q v x) = value_other is x
+
 pub asks_other : (s : State) (line : List Token) (meter_after : Meter) (f : Fault) → s.meter.remaining ≡ None → NamesHeader s line meter_after (Err f) → f.number ≢ 35
-asks_other s line meter_after f is g = asks_by_other (begins_with_header (operands line)) s line meter_after f is g
+asks_other s line meter_after f is g = asks_by_other (begins_with_header (operands line)) (name_of_header (operands line)) s line (operands line) meter_after f is g
 
 pub control_by_other : (profile : Profile) (row : ℕ) (d : Option Directive) (s : State) (line : LogicalLine) (m : Progress) → s.meter.remaining ≡ None → ExecutesDirective profile row d s line m → IsOther m.fault
-control_by_other profile row d s line m is g = effect_other (λ x expands. expansion_other is expands) (effect_of profile row d s line m g)
+control_by_other profile row d s line m is g = effect_other (λ tokens x expands. expansion_other is expands) (effect_of profile row d s line m g)
 
 -- ---- without a budget no unit ends in fault 35
 

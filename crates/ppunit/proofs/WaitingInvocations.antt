@@ -19,12 +19,11 @@ use Rattle.ppexpand.specs.Laws.{LeavesOpen, nothing_open, invocation_open}
 use Rattle.ppexpand.specs.OpenInvocations.{open_expansion}
 use Rattle.ppexpand.proofs.OpenLists.{leaves}
 use Rattle.ppunit.specs.DirectiveLines.{operands, text_tokens}
-use Rattle.ppunit.specs.LineControl.{presumed}
 use Rattle.ppunit.specs.Directives.{EmitsText, ExecutesDirective, meter_at_text, is_refused, refusal}
 use Rattle.ppunit.specs.Group.{ExecutesGroup, ExecutesBranches, ExecutesControlLine, ExecutesInclude, OpensFile}
 use Rattle.ppunit.specs.Unit.{Defines, unread, processed}
 use Rattle.ppunit.specs.code.Effects.{HasEffect}
-use Rattle.ppunit.proofs.DirectiveEffects.{effect_of, effect_keeps, line_keeps}
+use Rattle.ppunit.proofs.DirectiveEffects.{effect_of, effect_keeps, expanding_keeps}
 
 -- Nothing waits, or an invocation does: a token that names a function-like macro, `(`, and the tokens behind it. So the expansion of the tokens
 -- that wait and of more tokens behind them begins with this invocation.
@@ -80,9 +79,9 @@ effect_waits : {profile : Profile} {row : ℕ} {d : Option Directive} {s : State
 effect_waits {profile} {row} {d} {s} {line} w free (HasEffect.immediate {e = e} is gives) =
     subst (λ (r : Progress). WaitsIn r.state) (sym gives)
     (still_waits e.macros d (operands line.tokens) w free (λ t h. effect_keeps profile row d s line e t is h))
-effect_waits {s = s} {line = line} w free (HasEffect.expanding x is expands gives) =
+effect_waits {d = d} {s = s} {line = line} w free (HasEffect.expanding x is expands gives) =
     subst (λ (r : Progress). WaitsIn r.state) (sym gives)
-    (subst (λ (macros : Macros). Waits macros s.waiting) (line_keeps s line x.fault (presumed x.tokens)) w)
+    (subst (λ (macros : Macros). Waits macros s.waiting) (expanding_keeps d s line x.fault x.tokens) w)
 
 pub control_by_waits : (profile : Profile) (row : ℕ) (d : Option Directive) (s : State) (line : LogicalLine) (m : Progress)
     → WaitsIn s

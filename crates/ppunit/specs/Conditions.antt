@@ -1,7 +1,5 @@
 -- Whether a line of an if-section takes the group after it (6.10.1).
 use Rattle.std.specs.Prelude.{◌≡◌, ℕ, Bool, List, Option, None, Some, Result, Ok, Err}
-use Rattle.std.specs.Option.{is_some}
-use Rattle.std.specs.FinMap as table
 use Rattle.pptext.specs.declared.tokens.Token.{Token}
 use Rattle.pptext.specs.declared.tokens.Fault.{Fault}
 use Rattle.pptext.specs.declared.directives.Question.TheVariants.{Defined, Value}
@@ -12,14 +10,10 @@ use Rattle.ppmacro.specs.Names.{Macros}
 use Rattle.ppmacro.specs.Define.{same_bool}
 use Rattle.ppexpand.specs.declared.meter.Meter.{Meter}
 use Rattle.ppexpr.specs.Conditions.{IsCondition}
-use Rattle.ppunit.specs.States.{Search, State}
+use Rattle.ppunit.specs.States.{is_macro_name, Search, State}
 use Rattle.ppunit.specs.DirectiveLines.{operands, named_fault, one_identifier}
 use Rattle.ppunit.specs.Quotes.{unmatched_quote}
-use Rattle.ppunit.specs.Probing.{condition_tokens}
-
--- whether the name is a macro name
-abbrev pub is_macro_name : Macros → List ℕ → Bool
-is_macro_name macros name = is_some (table.get macros name)
+use Rattle.ppunit.specs.Probing.{ProbesLine}
 
 -- `#ifdef` and `#elifdef` take the group if the name is defined, `#ifndef` and `#elifndef` if it isn't; fault 9 unless
 -- the operand is one identifier
@@ -31,8 +25,16 @@ by_name wanted macros line (Some name) = Ok (same_bool wanted (is_macro_name mac
 abbrev pub DecidesFreely : State → Result Bool Fault → Meter → Result Bool Fault → Type 0
 DecidesFreely s decision meter_after taken = (meter_after ≡ s.meter) × (taken ≡ decision)
 
+-- Whether the value of a line's condition isn't 0, or the fault of the step before it or its own, and the meter after it.
+pub data DecidesByValue (search : Search) (row : ℕ) (s : State) (line : List Token) (meter_after : Meter) (taken : Result Bool Fault) : Type 0 where
+  probing_fault : {f : Fault} → ProbesLine search row s line meter_after (Err f) → taken ≡ Err f → DecidesByValue search row s line meter_after taken
+  evaluated : {tokens : List Token} {meter_between : Meter}
+      → ProbesLine search row s line meter_between (Ok tokens)
+      → IsCondition s.macros s.env (hash_place line) tokens meter_between taken meter_after
+      → DecidesByValue search row s line meter_after taken
+
 -- Whether the group after a line of the file at index `row` is taken, or the line's fault, and the meter after it. The
--- line has an unmatched quote, or it asks for a name, or the tokens of its condition have a fault, or it has a condition.
+-- line has an unmatched quote, or it asks for a name, or for the value of a condition.
 pub data Decides (search : Search) (row : ℕ) (s : State) (line : LogicalLine) (meter_after : Meter) (taken : Result Bool Fault) : Type 0 where
   unmatched : {f : Fault}
       → unmatched_quote line.tokens ≡ Some f
@@ -43,15 +45,7 @@ pub data Decides (search : Search) (row : ℕ) (s : State) (line : LogicalLine) 
       → question_by line.directive ≡ Some (Defined wanted)
       → DecidesFreely s (by_name wanted s.macros line.tokens (one_identifier (operands line.tokens))) meter_after taken
       → Decides search row s line meter_after taken
-  names_no_header : {f : Fault}
-      → unmatched_quote line.tokens ≡ None
+  evaluates : unmatched_quote line.tokens ≡ None
       → question_by line.directive ≡ Some Value
-      → condition_tokens search row line.tokens ≡ Err f
-      → DecidesFreely s (Err f) meter_after taken
-      → Decides search row s line meter_after taken
-  evaluates : {tokens : List Token}
-      → unmatched_quote line.tokens ≡ None
-      → question_by line.directive ≡ Some Value
-      → condition_tokens search row line.tokens ≡ Ok tokens
-      → IsCondition s.macros s.env (hash_place line.tokens) tokens s.meter taken meter_after
+      → DecidesByValue search row s line.tokens meter_after taken
       → Decides search row s line meter_after taken

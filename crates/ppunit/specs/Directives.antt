@@ -1,6 +1,6 @@
 -- The effect of a control line (6.10.2 to 6.10.7), without the file that it includes.
-use Rattle.std.specs.Prelude.{◌≡◌, ℕ, Bool, true, false, ◌&&◌, if◌then◌else◌, Option, None, Some, Result, Ok, Err}
-use Rattle.std.specs.Prelude.{List, [], ◌∷◌, ◌++◌, map, flat_map, codes}
+use Rattle.std.specs.Prelude.{◌≡◌, ℕ, Bool, true, false, ◌&&◌, ◌||◌, if◌then◌else◌, Option, None, Some, Result, Ok, Err}
+use Rattle.std.specs.Prelude.{List, [], ◌∷◌, ◌++◌, map, flat_map, take, codes}
 use Rattle.std.specs.Str.{bytes_eq}
 use Rattle.pptext.specs.declared.tokens.Token.{Token}
 use Rattle.pptext.specs.declared.tokens.Fault.{Fault}
@@ -23,7 +23,7 @@ use Rattle.ppexpand.specs.OpenInvocations.{open_expansion}
 use Rattle.ppshelf.specs.Names.{name_in}
 use Rattle.ppshelf.specs.Search.{Candidate, candidates, candidates_after, IsFirstRow}
 use Rattle.ppunit.specs.declared.units.Item.TheVariants as item
-use Rattle.ppunit.specs.States.{State, Context, Progress, running, stopped, emitted, with_once, with_macro_pushed, with_macro_popped, with_meter, with_waiting}
+use Rattle.ppunit.specs.States.{is_macro_name, State, Context, Progress, running, stopped, emitted, with_once, with_macro_pushed, with_macro_popped, with_meter, with_waiting, Search, search_of}
 use Rattle.ppunit.specs.DirectiveLines.{operands, line_fault, named_fault, spaced}
 use Rattle.ppunit.specs.LineControl.{Presumed, is_plain_string, presumed, renumbered}
 use Rattle.ppunit.specs.Including.{IncludeName, inner, begins_with_header, name_of_header, name_or, name_of_expansion_or, if_possible_name}
@@ -82,33 +82,34 @@ pub record SetsLine (s : State) (line : LogicalLine) (progress : Progress) : Typ
 
 -- ---- `#include` (6.10.2)
 
--- if no header name is after `include`: the header that the operands name once their macros are replaced, and the
--- meter after it
-pub record NamesHeaderByExpansion (s : State) (line : List Token) (meter_after : Meter) (include_name : Result IncludeName Fault) : Type 0 where
+-- the header that tokens of a line name once their macros are replaced, and the meter after it
+pub record NamesHeaderByExpansion (s : State) (line tokens : List Token) (meter_after : Meter) (include_name : Result IncludeName Fault) : Type 0 where
   pub expanded : Expansion
-  pub expands : IsExpansion s.macros s.env s.meter (operands line) expanded
+  pub expands : IsExpansion s.macros s.env s.meter tokens expanded
   pub leaves : meter_after ≡ expanded.meter
   pub is : include_name ≡ name_of_expansion_or (line_fault 30 line []) expanded.fault expanded.tokens
 
--- the header that an include line names, or its fault, and the meter after it; the flag says whether a header name is
--- after `include`
-abbrev pub NamesHeaderBy : Bool → State → List Token → Meter → Result IncludeName Fault → Type 0
-NamesHeaderBy true s line meter_after include_name = (meter_after ≡ s.meter) × (include_name ≡ name_or (line_fault 30 line []) (if_possible_name (name_of_header (operands line))))
-NamesHeaderBy false s line meter_after include_name = NamesHeaderByExpansion s line meter_after include_name
+-- The header that tokens of a line name, or its fault, and the meter after it. With the flag the tokens name it without macro
+-- replacement: `unexpanded` is that header.
+abbrev pub NamesHeaderBy : Bool → Option IncludeName → State → List Token → List Token → Meter → Result IncludeName Fault → Type 0
+NamesHeaderBy true unexpanded s line tokens meter_after include_name = (meter_after ≡ s.meter) × (include_name ≡ name_or (line_fault 30 line []) (if_possible_name unexpanded))
+NamesHeaderBy false unexpanded s line tokens meter_after include_name = NamesHeaderByExpansion s line tokens meter_after include_name
 
+-- the header that an include line names; no macros are replaced if a header name is after `include`
 abbrev pub NamesHeader : State → List Token → Meter → Result IncludeName Fault → Type 0
-NamesHeader s line meter_after include_name = NamesHeaderBy (begins_with_header (operands line)) s line meter_after include_name
+NamesHeader s line meter_after include_name =
+    NamesHeaderBy (begins_with_header (operands line)) (name_of_header (operands line)) s line (operands line) meter_after include_name
 
 -- the candidates for a header in the file at index `from`; with the number of a directory, only those in the
 -- directories after it (gcc's manual, "Wrapper Headers")
-abbrev pub candidates_for : Context → ℕ → Option ℕ → IncludeName → List Candidate
-candidates_for context from None a = candidates a.form (name_in context.names from) context.unit_directories context.setting_directories a.name
-candidates_for context from (Some number) a = candidates_after number context.unit_directories context.setting_directories a.name
+abbrev pub candidates_for : Search → ℕ → Option ℕ → IncludeName → List Candidate
+candidates_for search from None a = candidates a.form (name_in search.names from) search.unit_directories search.setting_directories a.name
+candidates_for search from (Some number) a = candidates_after number search.unit_directories search.setting_directories a.name
 
 -- the index of the file that is found for the header, if there is one, and the number of the directory in which it is
 -- found
 abbrev pub FindsFile : Context → ℕ → Option ℕ → IncludeName → Option (ℕ × ℕ) → Type 0
-FindsFile context from previous_directory a found = IsFirstRow context.names (candidates_for context from previous_directory a) found
+FindsFile context from previous_directory a found = IsFirstRow context.names (candidates_for (search_of context) from previous_directory a) found
 
 -- ---- `#pragma` (6.10.6)
 
@@ -148,10 +149,37 @@ noting_pop (Some name) s = with_macro_popped s name
 abbrev pub noting_macro_pragma : Profile → List Token → State → State
 noting_macro_pragma profile ts s = noting_pop (name_to_pop profile ts) (noting_push (name_to_push profile ts) s)
 
--- each pragma is an item, and some have a meaning besides
+-- a pragma without macro replacement is an item, and some have a meaning besides
 abbrev pub pragma_emitted : Profile → ℕ → State → List Token → State
 pragma_emitted profile row s line =
     noting_macro_pragma profile (operands line) (noting_pragma_once profile row (operands line) (emitted s (item.Pragma (hash_place line) (operands line) ∷ [])))
+
+-- the words of a pragma after which GNU C replaces macros: `omp` is one where `_OPENMP` is a macro, and `acc` where `_OPENACC` is one
+abbrev pub expands_after : Macros → Name → Bool
+expands_after macros word =
+    bytes_eq word (codes "message") || (bytes_eq word (codes "redefine_extname")
+    || (bytes_eq word (codes "omp") && is_macro_name macros (codes "_OPENMP") || bytes_eq word (codes "acc") && is_macro_name macros (codes "_OPENACC")))
+
+-- the tokens of a pragma in which macros are replaced, if there are such: those after its first word
+abbrev pub expanded_operands : Profile → Macros → List Token → Option (List Token)
+expanded_operands profile macros [] = None
+expanded_operands profile macros (word ∷ ts) = if is_gnu profile && expands_after macros word.text then Some ts else None
+
+-- the pragma after macro replacement: its first word stays; a fault of the expansion stops the unit
+abbrev pub pragma_expanded : State → List Token → Option Fault → List Token → Progress
+pragma_expanded s line (Some f) tokens = stopped s f
+pragma_expanded s line None tokens = running (emitted s (item.Pragma (hash_place line) (take 1 (operands line) ++ tokens) ∷ []))
+
+-- a pragma in which these tokens are expanded as text lines are
+pub record ExpandsPragma (s : State) (line : List Token) (tokens : List Token) (progress : Progress) : Type 0 where
+  pub expanded : Expansion
+  pub expands : IsExpansion s.macros s.env s.meter tokens expanded
+  pub is : progress ≡ pragma_expanded (with_meter s expanded.meter) line expanded.fault expanded.tokens
+
+-- each pragma is an item; in some of them tokens are expanded, and others have a meaning besides
+abbrev pub ExecutesPragma : Option (List Token) → Profile → ℕ → State → List Token → Progress → Type 0
+ExecutesPragma (Some tokens) profile row s line progress = ExpandsPragma s line tokens progress
+ExecutesPragma None profile row s line progress = progress ≡ running (pragma_emitted profile row s line)
 
 -- ---- directives among the arguments of a macro (6.10.3, paragraph 11; gcc executes them)
 
@@ -210,6 +238,6 @@ ExecutesDirective profile row (Some Null) s line progress = progress ≡ running
 ExecutesDirective profile row (Some Define) s line progress = progress ≡ with_macros s (after_define profile s.macros (hash_place line.tokens) (operands line.tokens))
 ExecutesDirective profile row (Some Undef) s line progress = progress ≡ with_macros s (after_undef profile s.macros (hash_place line.tokens) (operands line.tokens))
 ExecutesDirective profile row (Some Line) s line progress = SetsLine s line progress
-ExecutesDirective profile row (Some Pragma) s line progress = progress ≡ running (pragma_emitted profile row s line.tokens)
+ExecutesDirective profile row (Some Pragma) s line progress = ExecutesPragma (expanded_operands profile s.macros (operands line.tokens)) profile row s line.tokens progress
 ExecutesDirective profile row (Some Unknown) s line progress = progress ≡ stopped s (named_fault 8 line.tokens)
 ExecutesDirective _ _ _ s line progress = ⊥

@@ -9,7 +9,7 @@ use Rattle.ppshelf.specs.Names.{AreNames}
 use Rattle.ppshelf.specs.Content.{readable}
 use Rattle.ppshelf.specs.Files.{file_at}
 use Rattle.ppunit.specs.States.{State, Context, Progress, running, with_dependency, with_one_spent}
-use Rattle.ppunit.specs.Conditions.{is_macro_name}
+use Rattle.ppunit.specs.States.{is_macro_name}
 use Rattle.ppunit.specs.Group.{depth_limit, OpensFile}
 use Rattle.ppunit.specs.Counts.{count_opening}
 

@@ -1,82 +1,117 @@
--- `__has_include` in the operands of `#if` and `#elif` (gcc's manual, "__has_include"): a step before the condition.
-use Rattle.std.specs.Prelude.{ℕ, zero, suc, Bool, ◌&&◌, false, List, [], ◌∷◌, drop, take, position, codes, if◌then◌else◌, Option, None, Some, Result, Ok, Err}
+-- `__has_include` and `__has_include_next` in the operands of `#if` and `#elif` (gcc's manual, "__has_include"): a step before the condition.
+use Rattle.std.specs.Prelude.{◌≡◌, ℕ, zero, suc, Bool, true, false, ◌||◌, ◌&&◌, List, [], ◌∷◌, drop, take, position, codes, if◌then◌else◌, Option, None, Some, Result, Ok, Err}
 use Rattle.std.specs.List.{list_any}
+use Rattle.std.specs.Option.{option_map}
 use Rattle.std.specs.Str.{bytes_eq}
 use Rattle.pptext.specs.declared.tokens.Token.{Token}
 use Rattle.pptext.specs.declared.tokens.Fault.{Fault}
 use Rattle.pptext.specs.declared.tokens.Kind.TheVariants.{Number}
 use Rattle.pptext.specs.Profiles.{is_gnu}
 use Rattle.pptext.specs.Tokens.{is_identifier_named, is_punct}
-use Rattle.ppshelf.specs.Names.{name_in}
-use Rattle.ppshelf.specs.Search.{Candidate, candidates}
-use Rattle.ppunit.specs.States.{Search}
+use Rattle.ppexpand.specs.declared.meter.Meter.{Meter}
+use Rattle.ppshelf.specs.Search.{Candidate}
+use Rattle.ppunit.specs.States.{Search, State, with_meter}
 use Rattle.ppunit.specs.DirectiveLines.{operands, line_fault}
-use Rattle.ppunit.specs.Including.{IncludeName, name_of_expansion, if_possible_name}
+use Rattle.ppunit.specs.Including.{IncludeName, name_of_expansion}
+use Rattle.ppunit.specs.Directives.{NamesHeaderBy, candidates_for}
 
-abbrev pub is_has_include : Token → Bool
-is_has_include t = is_identifier_named (codes "__has_include") t
+abbrev pub is_has_include_next : Token → Bool
+is_has_include_next t = is_identifier_named (codes "__has_include_next") t
 
--- the first token is `(`
-abbrev pub opens : List Token → Bool
-opens [] = false
-opens (t ∷ ts) = is_punct (codes "(") t
+-- `__has_include` or `__has_include_next`
+abbrev pub is_operator : Token → Bool
+is_operator t = is_identifier_named (codes "__has_include") t || is_has_include_next t
+
+-- the first token is this punctuator
+abbrev pub begins_with : List ℕ → List Token → Bool
+begins_with text [] = false
+begins_with text (t ∷ ts) = is_punct text t
+
+-- a token is one of the operators, and the tokens after it begin with `(`; otherwise it is an ordinary token
+abbrev pub applies : Token → List Token → Bool
+applies t ts = begins_with (codes "(") ts && is_operator t
+
+-- ---- the operand
+
+-- the index of the first `)`
+abbrev pub first_close : List Token → Option ℕ
+first_close ts = position (λ t. is_punct (codes ")") t) ts
+
+abbrev pub one_less : ℕ → Option ℕ
+one_less zero = None
+one_less (suc depth) = Some depth
+
+-- the number of open parentheses after a token; none if it closes the one before all of them
+abbrev pub depth_after : ℕ → Token → Option ℕ
+depth_after depth t = if is_punct (codes "(") t then Some (suc depth) else (if is_punct (codes ")") t then one_less depth else Some depth)
+
+-- the index of the `)` that matches a `(` before the tokens, inside `depth` more parentheses
+abbrev pub matching_close : ℕ → List Token → Option ℕ
+matching_close depth [] = None
+matching_close depth (t ∷ ts) = elim (depth_after depth t) [ None ↦ Some 0 | Some inside ↦ option_map suc (matching_close inside ts) ]
+
+-- the index of the `)` after the operand: the first one if the operand begins with `<`, otherwise the matching one
+abbrev pub operand_end : List Token → Option ℕ
+operand_end ts = if begins_with (codes "<") ts then first_close ts else matching_close 0 ts
+
+-- the header that an operand in a line names; macros are replaced in it, unless it begins with `<`
+abbrev pub NamesOperand : State → (line operand : List Token) → Meter → Result IncludeName Fault → Type 0
+NamesOperand s line operand meter_after include_name =
+    NamesHeaderBy (begins_with (codes "<") operand) (name_of_expansion operand) s line operand meter_after include_name
+
+-- ---- the number
 
 -- one of the candidates is among the file names
 abbrev pub is_found : List (List ℕ) → List Candidate → Bool
 is_found names candidates = list_any (λ c. list_any (bytes_eq c.name) names) candidates
 
--- whether an `#include` of this header in the file at index `row` finds a file; the file isn't opened
-abbrev pub has_file : Search → ℕ → IncludeName → Bool
-has_file search row a = is_found search.names (candidates a.form (name_in search.names row) search.unit_directories search.setting_directories a.name)
+-- `__has_include_next` asks for the directories after that of the current file, as `#include_next`
+abbrev pub directory_before : Token → Option ℕ → Option ℕ
+directory_before t directory = if is_has_include_next t then directory else None
 
--- the number that replaces `__has_include` and its parentheses
+-- whether an include line with this header in the file at index `row` finds a file; the file isn't opened
+abbrev pub has_file : Search → ℕ → Option ℕ → IncludeName → Bool
+has_file search row previous_directory a = is_found search.names (candidates_for search row previous_directory a)
+
+-- the number that replaces an operator and its operand
 abbrev pub number_for : Token → Bool → Token
-number_for name found = record name { kind = Number; text = if found then codes "1" else codes "0" }
+number_for operator found = record operator { kind = Number; text = if found then codes "1" else codes "0" }
 
--- the number, if there is a header
-abbrev pub probe_result : Search → ℕ → Token → Option IncludeName → Option Token
-probe_result search row name None = None
-probe_result search row name (Some a) = Some (number_for name (has_file search row a))
+-- ---- the tokens
 
--- the index of the first `)`
-abbrev pub closing : List Token → Option ℕ
-closing ts = position (λ t. is_punct (codes ")") t) ts
+abbrev pub after_first : Token → Result (List Token) Fault → Result (List Token) Fault
+after_first t (Err f) = Err f
+after_first t (Ok ts) = Ok (t ∷ ts)
 
--- The number for an `__has_include` and the tokens after it, from the `(` to the first `)`, which is at this index. None if
--- there is no `)` or the tokens between them name no header.
-abbrev pub operator_number : Search → ℕ → Token → List Token → Option ℕ → Option Token
-operator_number search row name following None = None
-operator_number search row name following (Some close) = probe_result search row name (if_possible_name (name_of_expansion (drop 1 (take close following))))
+-- The tokens of a line of the file at index `row` with a number for each operator and its operand, from the left, or the
+-- first fault, and the meter after it.
+pub data Probes (search : Search) (row : ℕ) (line : List Token) : State → List Token → Meter → Result (List Token) Fault → Type 0 where
+  no_tokens : {s : State} → Probes search row line s [] s.meter (Ok [])
+  other : {s : State} {t : Token} {ts : List Token} {meter_after : Meter} {tokens : Result (List Token) Fault}
+      → applies t ts ≡ false
+      → Probes search row line s ts meter_after tokens
+      → Probes search row line s (t ∷ ts) meter_after (after_first t tokens)
+  unclosed : {s : State} {t : Token} {ts : List Token}
+      → applies t ts ≡ true
+      → operand_end (drop 1 ts) ≡ None
+      → Probes search row line s (t ∷ ts) s.meter (Err (line_fault 30 line []))
+  operand_fault : {s : State} {t : Token} {ts : List Token} {end : ℕ} {meter_after : Meter} {f : Fault}
+      → applies t ts ≡ true
+      → operand_end (drop 1 ts) ≡ Some end
+      → NamesOperand s line (take end (drop 1 ts)) meter_after (Err f)
+      → Probes search row line s (t ∷ ts) meter_after (Err f)
+  operator : {s : State} {t : Token} {ts : List Token} {end : ℕ} {meter_between meter_after : Meter} {tokens : Result (List Token) Fault} (a : IncludeName)
+      → applies t ts ≡ true
+      → operand_end (drop 1 ts) ≡ Some end
+      → NamesOperand s line (take end (drop 1 ts)) meter_between (Ok a)
+      → Probes search row line (with_meter s meter_between) (drop (suc end) (drop 1 ts)) meter_after tokens
+      → Probes search row line s (t ∷ ts) meter_after (after_first (number_for t (has_file search row (directory_before t s.directory) a)) tokens)
 
--- how many tokens the parentheses have
-abbrev pub parenthesized : Option ℕ → ℕ
-parenthesized None = 0
-parenthesized (Some close) = suc close
+-- in GNU C the operators are replaced, otherwise they are ordinary tokens
+abbrev pub ProbesBy : Bool → Search → ℕ → List Token → State → List Token → Meter → Result (List Token) Fault → Type 0
+ProbesBy true search row line s ts meter_after tokens = Probes search row line s ts meter_after tokens
+ProbesBy false search row line s ts meter_after tokens = (meter_after ≡ s.meter) × (tokens ≡ Ok ts)
 
--- a token and the tokens after it, if there are both
-abbrev pub first_and_rest : Option Token → Option (List Token) → Option (List Token)
-first_and_rest None ts = None
-first_and_rest (Some t) None = None
-first_and_rest (Some t) (Some ts) = Some (t ∷ ts)
-
--- the tokens after the next `passed`, probed
-abbrev pub probed_after : Search → ℕ → ℕ → List Token → Option (List Token)
-probed_after search row passed [] = Some []
-probed_after search row (suc passed) (t ∷ ts) = probed_after search row passed ts
-probed_after search row zero (t ∷ ts) =
-    if opens ts && is_has_include t then first_and_rest (operator_number search row t ts (closing ts)) (probed_after search row (parenthesized (closing ts)) ts)
-    else first_and_rest (Some t) (probed_after search row zero ts)
-
--- the tokens with a number for each `__has_include` before a `(`, up to the first `)`; none if one has no `)` or names
--- no header
-abbrev pub probed : Search → ℕ → List Token → Option (List Token)
-probed search row ts = probed_after search row 0 ts
-
-abbrev pub tokens_or : Fault → Option (List Token) → Result (List Token) Fault
-tokens_or f None = Err f
-tokens_or f (Some ts) = Ok ts
-
--- the tokens of a line's condition, or fault 30
-abbrev pub condition_tokens : Search → ℕ → List Token → Result (List Token) Fault
-condition_tokens search row line =
-    if is_gnu search.profile then tokens_or (line_fault 30 line []) (probed search row (operands line)) else Ok (operands line)
+-- the tokens of a line's condition, or the first fault, and the meter after it
+abbrev pub ProbesLine : Search → ℕ → State → List Token → Meter → Result (List Token) Fault → Type 0
+ProbesLine search row s line meter_after tokens = ProbesBy (is_gnu search.profile) search row line s (operands line) meter_after tokens

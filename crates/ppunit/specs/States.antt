@@ -1,5 +1,7 @@
 -- The state of phase 4 in a unit (5.1.1.2, 6.10).
 use Rattle.std.specs.Prelude.{ℕ, pos, Bool, true, false, List, [], ◌∷◌, ◌++◌, Option, Some, None}
+use Rattle.std.specs.Option.{is_some}
+use Rattle.std.specs.FinMap as table
 use Rattle.pptext.specs.declared.tokens.Token.{Token}
 use Rattle.pptext.specs.declared.tokens.Fault.{Fault}
 use Rattle.pptext.specs.declared.sources.Profile.{Profile}
@@ -94,6 +96,10 @@ emitted s items = record s { items = kept s.keeps s.items items }
 -- the state in which the file at index `row` is a dependency
 abbrev pub with_dependency : State → ℕ → State
 with_dependency s row = record s { deps = with_row row s.deps }
+
+-- whether the name is a macro name
+abbrev pub is_macro_name : Macros → Name → Bool
+is_macro_name macros name = is_some (table.get macros name)
 
 -- the state in which the file at index `row` isn't read again
 abbrev pub with_once : State → ℕ → State

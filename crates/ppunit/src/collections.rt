@@ -1,4 +1,5 @@
 //! File indices and items. Their models are lists.
+ghost use Rattle.ppunit.specs.BorrowedItems.{ref_item};
 ghost use Rattle.ppunit.specs.States.{kept};
 ghost use Rattle.ppunit.specs.code.Chunks.{chunk_items};
 ghost use Rattle.ppmacro.specs.Substituting.{tokens_of};
@@ -7,11 +8,12 @@ ghost use Rattle.std.specs.Prelude.{flat_map, ◌≡◌, map, IfOk, OnOk, ◌++�
 ghost use Rattle.ppunit.specs.declared.units.Item.TheVariants as item;
 ghost use Rattle.ppunit.specs.Dependencies.{has_row, with_row};
 
+use crate::items::ItemRef;
 use crate::units::Item;
 use indexmap::IndexSet;
 use ppexpand::{Piece, Scratch, TokenSlice};
 use ppmacro::Hidden;
-use pptext::{Memory, Place, Token, Tokens};
+use pptext::{Memory, Place, Token};
 use std::alloc::Global;
 use std::marker::Model;
 
@@ -65,12 +67,13 @@ impl Rows {
 }
 
 /// A chunk of the items: consecutive tokens of a file, tokens that were emitted one by one, or a pragma with its location and its
-/// tokens.
+/// tokens, which are those of the file or were expanded.
 #[derive(Drop)]
 pub(crate) enum Chunk<'a> {
     InFile(&'a [Token]),
     Singles(Vec<Hidden<'a>>),
     Pragma(Place, &'a [Token]),
+    Expanded(Place, Vec<Token>),
 }
 
 /// The items of a unit's output. Its model is their list.
@@ -132,6 +135,14 @@ impl<'a> Items<'a> {
         ensures { OnOk result (self.new ≡ self.old ++ item.Pragma at tokens.now ∷ []) }
     {
         self.chunks.push(Chunk::Pragma(at, tokens))?;
+        Ok(())
+    }
+
+    /// Appends a pragma whose tokens were expanded.
+    pub(crate) fn push_expanded(&mut self, at: Place, tokens: Vec<Token>) -> Result<(), Memory>
+        ensures { OnOk result (self.new ≡ self.old ++ item.Pragma at tokens.items ∷ []) }
+    {
+        self.chunks.push(Chunk::Expanded(at, tokens))?;
         Ok(())
     }
 
@@ -205,12 +216,19 @@ fn copy_chunk(alloc: Global, items: &mut Vec<Item>, chunk: &Chunk) -> Result<(),
     match chunk {
         Chunk::InFile(tokens) => push_tokens(items, TokenSlice::InFile(tokens)),
         Chunk::Singles(tokens) => push_tokens(items, TokenSlice::Hidden(tokens.as_slice())),
-        Chunk::Pragma(at, tokens) => {
-            let tokens = Tokens::new(Vec::from_clones(alloc, tokens)?);
-            items.push(Item::Pragma(*at, tokens))?;
-            Ok(())
+        Chunk::Pragma(at, tokens) => push_copy(alloc, items, ItemRef::Pragma(*at, tokens)),
+        Chunk::Expanded(at, tokens) => {
+            push_copy(alloc, items, ItemRef::Pragma(*at, tokens.as_slice()))
         }
     }
+}
+
+/// Appends a copy of an item.
+fn push_copy(alloc: Global, items: &mut Vec<Item>, item: ItemRef) -> Result<(), Memory>
+    ensures { OnOk result (items.new.items ≡ items.old.items ++ ref_item item.entry ∷ []) }
+{
+    items.push(item.to_item(alloc)?)?;
+    Ok(())
 }
 
 /// Appends copies of tokens.

@@ -6,8 +6,7 @@ ghost use Rattle.pptext.specs.Tree.{hash_place};
 ghost use Rattle.ppexpr.specs.Conditions.{IsCondition};
 ghost use Rattle.ppunit.specs.Conditions as spec;
 ghost use Rattle.ppunit.specs.DirectiveLines as spec_lines;
-ghost use Rattle.ppunit.specs.code.Lines.{directed, DecidesOf, IsConditional};
-ghost use Rattle.ppunit.specs.Probing.{condition_tokens};
+ghost use Rattle.ppunit.specs.code.Lines.{directed, IsConditional};
 ghost use Rattle.ppunit.specs.States.{with_meter};
 ghost use Rattle.ppunit.specs.code.Contexts.{search_in_unit};
 
@@ -19,7 +18,7 @@ use ppexpand::{Env, Meter, Scratch};
 use ppexpr::evaluate;
 use ppmacro::Table;
 use ppshelf::Disk;
-use pptext::{Directive, Error, Place, Question, Token};
+use pptext::{Directive, Error, Place, Question, Token, Tokens};
 use std::alloc::Global;
 
 /// Decides whether the group after a line of the file at index `row` is taken. Fails with the line's fault: 7, 9, 30,
@@ -72,7 +71,7 @@ fn by_condition<'x, D: Disk>(
     requires { 0 < length context.now.shelf.names }
     ensures rest { state.new ≡ with_meter state.old state.new.meter }
     ensures is { UnlessOutOfMemory result (λ taken.
-        DecidesOf (condition_tokens (search_in_unit context.now) row line.now) state.old (hash_place line.now) state.new.meter taken) }
+        spec.DecidesByValue (search_in_unit context.now) row state.old line.now state.new.meter taken) }
 {
     let at = line.hash_place();
     let operands = line.operands();
@@ -80,9 +79,7 @@ fn by_condition<'x, D: Disk>(
     if !needs_probing(context.profile(), operands) {
         return value(state, at, operands);
     }
-    let Some(tokens) = probe(context, row, operands)? else {
-        return Err(Error::bare(context.alloc, 30, at));
-    };
+    let tokens = probe(context, state, row, line)?;
     value_of_probed(state, at, tokens)
 }
 
@@ -110,10 +107,10 @@ fn evaluate_probed(
     env: &Env,
     meter: &mut Meter,
     at: Place,
-    tokens: Vec<Token>,
+    tokens: Tokens,
 ) -> Result<bool, Error>
     ensures { UnlessOutOfMemory result (λ taken.
-        IsCondition table.now.macros env.now at tokens.items meter.old taken meter.new) }
+        IsCondition table.now.macros env.now at tokens meter.old taken meter.new) }
 {
     let probed = tokens;
     let mut scratch = Scratch::new(alloc, table.hashing())?;
@@ -121,10 +118,10 @@ fn evaluate_probed(
 }
 
 /// Evaluates a condition in which each `__has_include` is replaced, with the meter of the unit.
-fn value_of_probed(state: &mut State, at: Place, tokens: Vec<Token>) -> Result<bool, Error>
+fn value_of_probed(state: &mut State, at: Place, tokens: Tokens) -> Result<bool, Error>
     ensures rest { state.new ≡ with_meter state.old state.new.meter }
     ensures is { UnlessOutOfMemory result (λ taken.
-        IsCondition state.old.macros state.old.env at tokens.items state.old.meter taken state.new.meter) }
+        IsCondition state.old.macros state.old.env at tokens state.old.meter taken state.new.meter) }
 {
     evaluate_probed(
         state.scratch.alloc(),

@@ -1,19 +1,21 @@
 //! Control lines that open no file (6.10.3 to 6.10.7).
-ghost use Rattle.std.specs.Prelude.{◌≡◌, IfOk, OnOk, Some, true};
+ghost use Rattle.std.specs.Prelude.{◌≡◌, ◌++◌, IfOk, OnOk, Some, take, true};
 ghost use Rattle.std.specs.Option.{option_copied};
 ghost use Rattle.std.specs.Result.{result_err};
 ghost use Rattle.pptext.specs.Errors.{Raises, UnlessOutOfMemory};
 ghost use Rattle.ppmacro.specs.DefineLines.{IsDefineLine};
 ghost use Rattle.ppunit.specs.Directives as spec;
 ghost use Rattle.ppunit.specs.DirectiveLines as spec_lines;
+ghost use Rattle.ppunit.specs.DirectiveLines.{operands};
 ghost use Rattle.ppunit.specs.code.Lines.{directed, IsControl};
 ghost use Rattle.ppunit.specs.States.{running};
 
 use crate::directive_line::{DirectiveLine, DirectiveTokens, line_fault, push_space};
 use crate::including::inner;
 use crate::line_control::{is_plain_string, renumber};
+use crate::operand_expansion::expand_operands;
 use crate::states::State;
-use ppmacro::{DefineLine, define, define_line, undef};
+use ppmacro::{DefineLine, Table, define, define_line, undef};
 use pptext::{Directive, Error, Memory, Profile, Token};
 use std::alloc::Global;
 
@@ -115,6 +117,60 @@ fn note_once(
     Ok(())
 }
 
+/// Returns whether GNU C replaces macros in a pragma after this word. `omp` and `acc` are such words only where `_OPENMP` and
+/// `_OPENACC` are macros.
+fn expands_after(macros: &Table, word: &[u8]) -> bool
+    ensures { result ≡ spec.expands_after macros.now.macros word.now }
+{
+    word == b"message".as_slice()
+        || word == b"redefine_extname".as_slice()
+        || word == b"omp".as_slice() && macros.get(b"_OPENMP").is_some()
+        || word == b"acc".as_slice() && macros.get(b"_OPENACC").is_some()
+}
+
+/// Returns the tokens of a pragma in which macros are replaced, if there are such, given the tokens after `#pragma`.
+fn expanded_operands<'x>(
+    profile: Profile,
+    macros: &Table,
+    tokens: &'x [Token],
+) -> Option<&'x [Token]>
+    ensures { option_copied result ≡ spec.expanded_operands profile macros.now.macros tokens.now }
+{
+    let (word, operands) = tokens.split_first()?;
+    if profile.is_gnu() && expands_after(macros, word.text.as_bytes()) {
+        return Some(operands);
+    }
+    None
+}
+
+/// Returns the first word of a pragma, and these tokens after it.
+fn after_word(alloc: Global, pragma: &[Token], tokens: &[Token]) -> Result<Vec<Token>, Memory>
+    ensures { IfOk result (λ v. v.items ≡ take 1 pragma.now ++ tokens.now) }
+{
+    let mut after = Vec::with_capacity(alloc, tokens.len() + 1)?;
+    if let Some(word) = pragma.first() {
+        after.push(word.clone()?)?;
+    }
+    for token in tokens {
+        after.push(token.clone()?)?;
+    }
+    Ok(after)
+}
+
+/// Emits a pragma after macro replacement in these operands. Its first word stays.
+fn expand_pragma<'x>(
+    state: &mut State<'x>,
+    line: &DirectiveTokens<'x>,
+    operands: &'x [Token],
+) -> Result<(), Error>
+    ensures { UnlessOutOfMemory result (λ r. spec.ExpandsPragma state.old line.now operands.now (record { state = state.new; fault = result_err r })) }
+{
+    let expanded = expand_operands(state, operands)?;
+    let tokens = after_word(state.scratch.alloc(), line.operands(), expanded.as_slice())?;
+    state.emit_expanded_pragma(line.hash_place(), tokens)?;
+    Ok(())
+}
+
 /// Emits a pragma with its tokens (6.10.6). `#pragma once` keeps the file at index `row` from being read again, `#pragma push_macro`
 /// keeps a macro, and `#pragma pop_macro` brings it back.
 fn pragma<'x>(
@@ -123,9 +179,13 @@ fn pragma<'x>(
     row: usize,
     line: &DirectiveTokens<'x>,
 ) -> Result<(), Error>
-    ensures { UnlessOutOfMemory result (λ r. record { state = state.new; fault = result_err r } ≡ running (spec.pragma_emitted profile row state.old line.now)) }
+    ensures { UnlessOutOfMemory result (λ r. spec.ExecutesPragma (spec.expanded_operands profile state.old.macros (operands line.now)) profile row state.old line.now
+        (record { state = state.new; fault = result_err r })) }
 {
     let tokens = line.operands();
+    if let Some(operands) = expanded_operands(profile, &state.macros, tokens) {
+        return expand_pragma(state, line, operands);
+    }
     state.emit_pragma(line.hash_place(), tokens)?;
     note_once(state, profile, row, tokens)?;
     push_named(state, profile, tokens)?;

@@ -4,8 +4,8 @@
 //! operands are expanded, and then a string literal or the tokens between `<` and `>` name the header. Those tokens are
 //! joined by their spellings, with one space where a token has leading white space.
 //!
-//! `__has_include` reads the same two forms without expansion: `name_of_tokens` is for it. A name that no file can have,
-//! an empty one or one that begins with `/`, is fault 30 in a line, and no header in a condition.
+//! The operand of `__has_include` is read in the same two forms. A name that no file can have, an empty one or one that
+//! begins with `/`, is fault 30.
 ghost use Rattle.std.specs.Prelude.{◌≡◌, ◌∷◌, IfOk, [], true};
 ghost use Rattle.std.specs.Option.{option_map};
 ghost use Rattle.pptext.specs.Errors.{UnlessOutOfMemory};
@@ -154,27 +154,8 @@ fn is_impossible_name(name: &[u8]) -> bool
     name.is_empty() || name[0] == b'/'
 }
 
-/// Drops a header whose name no file can have: an empty name, or one that begins with `/`.
-fn if_possible_name(include_name: Option<IncludeName>) -> Option<IncludeName>
-    ensures { result ≡ spec.if_possible_name include_name }
-{
-    match include_name {
-        Some(include_name) if !is_impossible_name(include_name.name.as_bytes()) => Some(
-            include_name,
-        ),
-        _ => None,
-    }
-}
-
-/// Returns the header that the tokens name without macro replacement, unless no file can have its name.
-pub(crate) fn name_of_tokens(alloc: Global, tokens: &[Token]) -> Result<Option<IncludeName>, Memory>
-    ensures { IfOk result (λ a. a ≡ spec.if_possible_name (spec.name_of_expansion tokens.now)) }
-{
-    Ok(if_possible_name(name_of_expansion(alloc, tokens)?))
-}
-
 /// Returns the header that the tokens name after macro replacement, or fault 30.
-fn name_of_expansion_or(
+pub(crate) fn name_of_expansion_or(
     alloc: Global,
     line: &DirectiveTokens<'_>,
     tokens: &[Token],
@@ -185,17 +166,18 @@ fn name_of_expansion_or(
     name_or_fault(alloc, line, include_name)
 }
 
-/// Returns the header that an include line names once its macros are replaced.
-fn expand_include_name<'x>(
+/// Returns the header that tokens of a line name once their macros are replaced.
+pub(crate) fn expand_include_name<'x>(
     alloc: Global,
     state: &mut State<'x>,
     line: &DirectiveTokens<'x>,
+    tokens: &'x [Token],
 ) -> Result<IncludeName, Error>
     ensures rest { state.new ≡ with_meter state.old state.new.meter }
-    ensures names { UnlessOutOfMemory result (λ include_name. NamesHeaderByExpansion state.old line.now state.new.meter include_name) }
+    ensures names { UnlessOutOfMemory result (λ include_name. NamesHeaderByExpansion state.old line.now tokens.now state.new.meter include_name) }
 {
-    let tokens = expand_operands(state, line.operands())?;
-    name_of_expansion_or(alloc, line, tokens.as_slice())
+    let expanded = expand_operands(state, tokens)?;
+    name_of_expansion_or(alloc, line, expanded.as_slice())
 }
 
 /// Returns the header that an include line without unmatched quotes names. Fails with a fault of macro replacement, or
@@ -215,5 +197,5 @@ pub(crate) fn read_include_name<'x>(
             return name_or_fault(alloc, line, include_name);
         }
     }
-    expand_include_name(alloc, state, line)
+    expand_include_name(alloc, state, line, rest)
 }

@@ -16,7 +16,7 @@ use std::marker::Model;
 #[derive(Clone, Copy)]
 pub enum ItemRef<'r, 'a> {
     Token(TokenRef<'r, 'a>),
-    Pragma(Place, &'a [Token]),
+    Pragma(Place, &'r [Token]),
 }
 
 impl<'r, 'a> ItemRef<'r, 'a> {
@@ -38,7 +38,7 @@ impl<'r, 'a> ItemRef<'r, 'a> {
 #[derive(Clone, Copy)]
 pub enum ItemSlice<'r, 'a> {
     Tokens(TokenSlice<'r, 'a>),
-    Pragma(Place, &'a [Token]),
+    Pragma(Place, &'r [Token]),
 }
 
 impl<'a> Chunk<'a> {
@@ -50,6 +50,7 @@ impl<'a> Chunk<'a> {
             Chunk::InFile(tokens) => ItemSlice::Tokens(TokenSlice::InFile(tokens)),
             Chunk::Singles(tokens) => ItemSlice::Tokens(TokenSlice::Hidden(tokens.as_slice())),
             Chunk::Pragma(at, tokens) => ItemSlice::Pragma(*at, tokens),
+            Chunk::Expanded(at, tokens) => ItemSlice::Pragma(*at, tokens.as_slice()),
         }
     }
 }

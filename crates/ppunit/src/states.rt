@@ -160,6 +160,20 @@ impl<'x> State<'x> {
         self.items.push_pragma(at, tokens)
     }
 
+    /// Emits a pragma whose tokens were expanded.
+    pub(crate) fn emit_expanded_pragma(
+        &mut self,
+        at: Place,
+        tokens: Vec<Token>,
+    ) -> Result<(), Memory>
+        ensures { OnOk result (self.new ≡ emitted self.old (item.Pragma at tokens.items ∷ [])) }
+    {
+        if !self.keeps {
+            return Ok(());
+        }
+        self.items.push_expanded(at, tokens)
+    }
+
     /// Returns whether there is a budget and it is exhausted.
     pub(crate) fn is_exhausted(&self) -> bool
         ensures { result ≡ is_exhausted self.now.meter }

@@ -1,6 +1,6 @@
 -- The effect of a control line that opens no file and isn't `#error` (6.10.3 to 6.10.7), apart from what it spends of
 -- the budget. Only proofs cite this: each `ExecutesDirective` has such an effect.
-use Rattle.std.specs.Prelude.{◌≡◌, ℕ, List, [], ◌∷◌, if◌then◌else◌, Option, None, Some, Result, Ok, Err}
+use Rattle.std.specs.Prelude.{◌≡◌, ℕ, List, [], ◌∷◌, ◌++◌, take, if◌then◌else◌, Option, None, Some, Result, Ok, Err}
 use Rattle.pptext.specs.declared.tokens.Fault.{Fault}
 use Rattle.pptext.specs.declared.tokens.Token.{Token}
 use Rattle.pptext.specs.declared.sources.Directive.{Directive}
@@ -21,7 +21,7 @@ use Rattle.ppunit.specs.Dependencies.{with_row}
 use Rattle.ppunit.specs.States.{kept, State, Progress, with_meter}
 use Rattle.ppunit.specs.DirectiveLines.{operands, line_fault, named_fault}
 use Rattle.ppunit.specs.LineControl.{Presumed, presumed, renumbered}
-use Rattle.ppunit.specs.Directives.{is_once, name_to_push, name_to_pop}
+use Rattle.ppunit.specs.Directives.{is_once, name_to_push, name_to_pop, expanded_operands}
 
 -- the macros, the files that aren't read again, the macros that are kept and the predefined names after a line, the items
 -- that it emits, and its fault
@@ -74,12 +74,17 @@ pragma_effect profile row s line =
       fault = None;
     }
 
+-- a `#pragma` in which no tokens are expanded
+abbrev pub immediate_pragma : Option (List Token) → Profile → ℕ → State → List Token → Option Effect
+immediate_pragma None profile row s line = Some (pragma_effect profile row s line)
+immediate_pragma (Some tokens) profile row s line = None
+
 -- the effect of a line that expands no operands
 abbrev pub immediate_effect : Profile → ℕ → Option Directive → State → LogicalLine → Option Effect
 immediate_effect profile row (Some Null) s line = Some (no_effect s)
 immediate_effect profile row (Some Define) s line = Some (macros_effect s (after_define profile s.macros (hash_place line.tokens) (operands line.tokens)))
 immediate_effect profile row (Some Undef) s line = Some (macros_effect s (after_undef profile s.macros (hash_place line.tokens) (operands line.tokens)))
-immediate_effect profile row (Some Pragma) s line = Some (pragma_effect profile row s line.tokens)
+immediate_effect profile row (Some Pragma) s line = immediate_pragma (expanded_operands profile s.macros (operands line.tokens)) profile row s line.tokens
 immediate_effect profile row (Some Unknown) s line = Some (only_fault s (named_fault 8 line.tokens))
 immediate_effect _ _ _ s line = None
 
@@ -89,11 +94,28 @@ line_effect s line (Some f) p = only_fault s f
 line_effect s line None None = only_fault s (line_fault 33 line.tokens [])
 line_effect s line None (Some p) = record { macros = s.macros; items = []; once = s.once; pushed = s.pushed; env = (renumbered s line p).env; fault = None }
 
--- the outcome is that of an effect: of a line that expands no operands, or of `#line` after the expansion of its operands
+-- `#pragma`, from the fault of the expansion of its operands and what the expansion says
+abbrev pub expanded_pragma_effect : State → List Token → Option Fault → List Token → Effect
+expanded_pragma_effect s line (Some f) tokens = only_fault s f
+expanded_pragma_effect s line None tokens =
+    record { macros = s.macros; items = item.Pragma (hash_place line) (take 1 (operands line) ++ tokens) ∷ []; once = s.once; pushed = s.pushed; env = s.env; fault = None }
+
+-- the tokens that a line expands, if it expands any
+abbrev pub expanded_tokens : Profile → Option Directive → State → LogicalLine → Option (List Token)
+expanded_tokens profile (Some Line) s line = Some (operands line.tokens)
+expanded_tokens profile (Some Pragma) s line = expanded_operands profile s.macros (operands line.tokens)
+expanded_tokens _ _ s line = None
+
+-- the effect of a line that expands tokens
+abbrev pub expanding_effect : Option Directive → State → LogicalLine → Option Fault → List Token → Effect
+expanding_effect (Some Pragma) s line f tokens = expanded_pragma_effect s line.tokens f tokens
+expanding_effect _ s line f tokens = line_effect s line f (presumed tokens)
+
+-- the outcome is that of an effect: of a line that expands no tokens, or of `#line` or `#pragma` after the expansion of its operands
 pub data HasEffect (profile : Profile) (row : ℕ) (d : Option Directive) (s : State) (line : LogicalLine) (m : Progress) : Type 0 where
   immediate : {e : Effect} → immediate_effect profile row d s line ≡ Some e → m ≡ affected s e → HasEffect profile row d s line m
-  expanding : (x : Expansion)
-      → d ≡ Some Line
-      → IsExpansion s.macros s.env s.meter (operands line.tokens) x
-      → m ≡ affected (with_meter s x.meter) (line_effect s line x.fault (presumed x.tokens))
+  expanding : {tokens : List Token} (x : Expansion)
+      → expanded_tokens profile d s line ≡ Some tokens
+      → IsExpansion s.macros s.env s.meter tokens x
+      → m ≡ affected (with_meter s x.meter) (expanding_effect d s line x.fault x.tokens)
       → HasEffect profile row d s line m

@@ -1,16 +1,12 @@
 -- Directive lines as the code passes them from function to function. Only contracts of private functions cite this.
-use Rattle.std.specs.Prelude.{◌≡◌, ℕ, Bool, List, Option, Some, IsSome, Result, Ok, Err}
-use Rattle.pptext.specs.declared.tokens.Place.{Place}
+use Rattle.std.specs.Prelude.{◌≡◌, ℕ, List, Option, Some, IsSome}
 use Rattle.pptext.specs.declared.tokens.Token.{Token}
 use Rattle.pptext.specs.declared.tokens.Fault.{Fault}
 use Rattle.pptext.specs.declared.sources.Directive.{Directive}
 use Rattle.pptext.specs.declared.directives.Class.TheVariants as class
 use Rattle.pptext.specs.Lines.{LogicalLine}
 use Rattle.pptext.specs.Classes.{class_of, question_of}
-use Rattle.ppexpand.specs.declared.meter.Meter.{Meter}
-use Rattle.ppexpr.specs.Conditions.{IsCondition}
 use Rattle.ppunit.specs.States.{State}
-use Rattle.ppunit.specs.Conditions.{DecidesFreely}
 use Rattle.ppunit.specs.DirectiveLines.{operands}
 use Rattle.ppunit.specs.Directives.{refusal, or_fault}
 use Rattle.ppunit.specs.Quotes.{unmatched_quote}
@@ -30,8 +26,3 @@ IsControl d = class_of d ≡ class.Control
 -- the directives whose lines decide whether the group after them is taken
 abbrev pub IsConditional : Directive → Type 0
 IsConditional d = IsSome (question_of d)
-
--- the value of a condition of these tokens, or the fault of the step before it, which spends nothing
-abbrev pub DecidesOf : Result (List Token) Fault → State → Place → Meter → Result Bool Fault → Type 0
-DecidesOf (Err f) s at meter_after taken = DecidesFreely s (Err f) meter_after taken
-DecidesOf (Ok tokens) s at meter_after taken = IsCondition s.macros s.env at tokens s.meter taken meter_after

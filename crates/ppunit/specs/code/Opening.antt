@@ -11,7 +11,7 @@ use Rattle.ppshelf.specs.Names.{name_in}
 use Rattle.ppunit.specs.declared.states.FileContext.{FileContext}
 use Rattle.ppunit.specs.States.{State, file_context, with_one_spent, literal}
 use Rattle.ppunit.specs.Group.{depth_limit}
-use Rattle.ppunit.specs.Conditions.{is_macro_name}
+use Rattle.ppunit.specs.States.{is_macro_name}
 use Rattle.pptext.specs.Guard.{GuardedBy}
 
 -- a file that is being processed: its index in the file table, its lines, and the index of the next line

@@ -1,4 +1,4 @@
-use Rattle.std.proofs.Common.{◌≡◌, ◌∙◌, Some, refl, sym, ap, subst}
+use Rattle.std.proofs.Common.{◌≡◌, ◌∙◌, Some, sym, ap, subst}
 use Rattle.pptext.specs.declared.directives.Question.{Question}
 use Rattle.pptext.specs.Errors.{UnlessOutOfMemory}
 use Rattle.pptext.proofs.ErrorReturns.{stopped}
@@ -6,9 +6,8 @@ use Rattle.ppunit.specs.States.{State}
 use Rattle.ppunit.specs.DirectiveLines.{operands, one_identifier}
 use Rattle.ppunit.specs.Conditions.{by_name}
 use Rattle.ppunit.specs.code.Contexts.{search_in_unit}
-use Rattle.ppunit.proofs.LineDecisions.{decides_quote, decides_name, decides_of}
+use Rattle.ppunit.proofs.LineDecisions.{decides_quote, decides_name, decides_value}
 use Rattle.ppunit.proofs.UnitValue.{on_settled}
-use Rattle.ppunit.specs.code.Lines.{directed}
 use Rattle.ppunit.proofs.conditions.decide.Goals as goal
 
 pub returns-in_err-refuse_unmatched_quote-clause-decides : goal.returns-in_err-refuse_unmatched_quote-clause-decides
@@ -29,6 +28,6 @@ returns-in-Some-Defined-clause-decides g c =
 pub returns-in-Some-Value-clause-decides : goal.returns-in-Some-Value-clause-decides
 returns-in-Some-Value-clause-decides g c =
     on_settled c.by_condition.result
-    (λ taken is number. decides_of (search_in_unit c.args.context.now) c.args.row c.args.state.now (directed c.args.directive c.args.line.now number) _ c.by_condition.new.state.meter taken
-    (sym c.in_ok-refuse_unmatched_quote.ensures) (sym c.question.ensures ∙ c.in-Some-Value.is ∙ ap (λ (q : Question). Some q) c.in-Some-Value.field-0-is) refl is)
+    (λ taken is number. decides_value (search_in_unit c.args.context.now) c.args.row c.args.state.now c.args.directive c.args.line.now number c.by_condition.new.state.meter taken
+    (sym c.in_ok-refuse_unmatched_quote.ensures) (sym c.question.ensures ∙ c.in-Some-Value.is ∙ ap (λ (q : Question). Some q) c.in-Some-Value.field-0-is) is)
     c.by_condition.ensures.is

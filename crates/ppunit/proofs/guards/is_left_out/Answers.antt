@@ -1,5 +1,5 @@
 use Rattle.std.proofs.Common.{rules, ◌≡◌}
-use Rattle.ppunit.specs.Conditions.{is_macro_name}
+use Rattle.ppunit.specs.States.{is_macro_name}
 use Rattle.ppunit.proofs.GuardedFiles.{left_out_by, none_left_out}
 use Rattle.ppunit.proofs.guards.is_left_out.Goals as goal
 
