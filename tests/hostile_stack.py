@@ -3,7 +3,7 @@
 
     tests/hostile_stack.py [PROGRAM] [-k NAME]
 
-A stack of 320 KB must be enough for all depths at once: 200 includes, and in the last file 256 levels of arguments, and 256 parentheses, signs
+A stack of 256 KB must be enough for all depths at once: 200 includes, and in the last file 256 levels of arguments, and 256 parentheses, signs
 and conditional operators of a condition.  It must also be enough for 127 nested arrays.  If it isn't, the least sufficient stack is printed.
 With each limit of memory and stacks together (`ulimit -v`) a run prints the right output, or exits with 4 and prints nothing, and never ends
 by a signal.
@@ -14,7 +14,7 @@ import unittest
 
 from counted import LIST, main, program
 
-STACK = 320
+STACK = 256
 STACKS = (128, 192, 256, 320, 384, 448, 512, 768, 1_024, 2_048)
 OUT_OF_MEMORY = (4, b"", b"cppunits: out of memory\n")
 # what the system's loader prints if there is no memory for the program itself

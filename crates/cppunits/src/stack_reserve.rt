@@ -5,12 +5,12 @@ use std::alloc::Global;
 /// The number of bytes in a page.
 const PAGE: usize = 4_096;
 
-/// The number of pages to reserve. The deepest run takes 276 KB.
-const PAGES: usize = 72;
+/// The number of pages to reserve. The deepest run takes 192 KB.
+const PAGES: usize = 48;
 
 /// The number of bytes in all pages, and some more. An allocation of this size has pages of its own, which the stack
 /// can use after it is freed.
-const RESERVED: usize = 320 * 1_024;
+const RESERVED: usize = 256 * 1_024;
 
 /// Touches a page of the stack in each of its frames. Each page is filled from the frame above it, so that no compiler
 /// optimizes it away.

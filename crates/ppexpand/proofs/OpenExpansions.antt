@@ -1,5 +1,5 @@
 -- What the expansion of a list leaves open, from a state of the loop over its steps.
-use Rattle.std.proofs.Common.{◌≡◌, ℕ, List, [], Some, None, refl, sym, ap, ◌∙◌, if◌then◌else◌}
+use Rattle.std.proofs.Common.{◌≡◌, ℕ, List, [], Some, None, refl, sym, ap, ◌∙◌, if◌then◌else◌, Bool, true}
 use Rattle.pptext.specs.declared.tokens.Token.{Token}
 use Rattle.pptext.specs.declared.tokens.Fault.{Fault}
 use Rattle.ppmacro.specs.Names.{Macros}
@@ -33,21 +33,21 @@ module _ (macros : Macros) (env : Env) (level : ℕ) where
       → Reaches first start meter_after next
   reaches_step emitted so_far step = leads_further macros env so_far.1 (steps step.2.leads stays)
 
-  pub leaves_none : {first meter : Meter} {start emitted : List Hiding} {open' : List Token}
+  pub leaves_none : {looks : Bool} {first meter : Meter} {start emitted : List Hiding} {open' : List Token}
       → ExpandsTo macros env level first start (record { tokens = emitted; fault = None; meter = meter })
       → open' ≡ []
-      → ExpandsLeavingOpen macros env level first start (record { tokens = emitted; fault = None; meter = meter }) open'
-  leaves_none one none = record { expands = one; open_is = none }
+      → ExpandsLeavingOpen looks macros env level first start (record { tokens = emitted; fault = None; meter = meter }) open'
+  leaves_none one none = record { expands = one; open_is = λ looked. none }
 
-  pub leaves_tokens : (first : Meter) (start emitted : List Hiding) (meter : Meter) (list : List Hiding) (f : Fault) (meter_after : Meter) (more : List Hiding) (open' : List Token)
+  pub leaves_tokens : {looks : Bool} (first : Meter) (start emitted : List Hiding) (meter : Meter) (list : List Hiding) (f : Fault) (meter_after : Meter) (more : List Hiding) (open' : List Token)
       → Follows macros env level first start emitted meter list
       → Reaches first start meter list
       → HasEnded macros env level meter list emitted (Some f) meter_after more
-      → open' ≡ (if is_exhausted meter then [] else open_tokens macros list)
-      → ExpandsLeavingOpen macros env level first start (record { tokens = more; fault = Some f; meter = meter_after }) open'
+      → (looks ≡ true → open' ≡ (if is_exhausted meter then [] else open_tokens macros list))
+      → ExpandsLeavingOpen looks macros env level first start (record { tokens = more; fault = Some f; meter = meter_after }) open'
   leaves_tokens first start emitted meter list f meter_after more open' so_far on end is =
       let one = end_follows macros env level first start emitted meter list (Some f) meter_after more so_far end in
       record {
         expands = one;
-        open_is = is ∙ open_here macros env f end.0 refl ∙ ap (still_open macros (Some f)) (sym (stops_there macros env on.1 end.0 one.1));
+        open_is = λ looked. is looked ∙ open_here macros env f end.0 refl ∙ ap (still_open macros (Some f)) (sym (stops_there macros env on.1 end.0 one.1));
       }

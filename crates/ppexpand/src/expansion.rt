@@ -432,7 +432,8 @@ fn expand_tokens<'x, 'a: 'x>(
     expander.renew_sets(context.table.hashing())?;
     let pushed = mem::replace(stack, Vec::new(*stack.allocator()));
     let mut list = TokenStack::over(pushed, tokens, expander.replacer.sets.empty());
-    let outcome = expander.expand_list(context, &mut list, emitted);
+    let mut unclosed = Vec::new(expander.replacer.pool.alloc());
+    let outcome = expander.expand_leaving_open(context, false, &mut list, emitted, &mut unclosed);
     *meter = expander.meter;
     keep_stack(stack, list.into_pushed());
     match outcome {

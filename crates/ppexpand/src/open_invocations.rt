@@ -144,8 +144,9 @@ fn copy_if_open<'x>(
 }
 
 /// Returns copies of the tokens of a list that begins with an open invocation, if something remains of the budget, and otherwise no tokens.
-/// `named` is the macro that the next token names, if any.
+/// `named` is the macro that the next token names, if any. If `looks` is false, returns no tokens.
 fn copy_open_invocation<'x>(
+    looks: bool,
     alloc: Global,
     sets: &HideSets,
     meter: Meter,
@@ -154,9 +155,12 @@ fn copy_open_invocation<'x>(
 ) -> Result<Vec<Hidden<'x>>, Memory>
     requires { AllKnown sets.now list.old }
     ensures same { OnOk result (list.new ≡ list.old) }
-    ensures is { IfOk result (λ copy. (macros : Macros) → option_copied named.entry ≡ next_macro macros (tokens_of list.old)
+    ensures is { IfOk result (λ copy. looks ≡ true → (macros : Macros) → option_copied named.entry ≡ next_macro macros (tokens_of list.old)
         → tokens_of copy.items ≡ (if is_exhausted meter then [] else open_tokens macros (hidings sets.now list.old))) }
 {
+    if !looks {
+        return Ok(Vec::new(alloc));
+    }
     let Some(definition) = named else {
         return Ok(Vec::new(alloc));
     };
@@ -170,11 +174,13 @@ fn copy_open_invocation<'x>(
 }
 
 impl<'x> Expander<'x> {
-    /// Expands a list as `expand_list` does, and appends the emitted tokens to `emitted`. `unclosed` becomes the tokens of the invocation that is
-    /// open when a fault stops the expansion.
-    fn expand_leaving_open<'a: 'x>(
+    /// Expands a list as `expand_list` does, and appends the emitted tokens to `emitted`. If `looks` is true, `unclosed` becomes the tokens of the
+    /// invocation that is open when a fault stops the expansion. This is for lists that are no arguments: `expand_list` has no other caller
+    /// than the expansion of an argument, and so takes no stack of its own.
+    pub(crate) fn expand_leaving_open<'a: 'x>(
         &mut self,
         context: &Context<'_, 'a>,
+        looks: bool,
         list: &mut TokenStack<'x>,
         emitted: &mut Emitted<'x>,
         unclosed: &mut Vec<Hidden<'x>>,
@@ -183,7 +189,7 @@ impl<'x> Expander<'x> {
         requires hashing { self.old.replacer.sets.hashing ≡ context.now.table.now.hashing }
         requires known { AllKnown self.old.replacer.sets list.old }
         requires none { emitted.old ≡ [] }
-        ensures { UnlessOutOfMemory result (λ r. ExpandsLeavingOpen context.now.table.now.macros context.now.env.now context.now.level self.old.meter (hidings self.old.replacer.sets list.old)
+        ensures { UnlessOutOfMemory result (λ r. ExpandsLeavingOpen looks context.now.table.now.macros context.now.env.now context.now.level self.old.meter (hidings self.old.replacer.sets list.old)
             (record { tokens = hidings self.new.replacer.sets emitted.new; fault = result_err r; meter = self.new.meter }) (tokens_of unclosed.new.items)) }
     {
         loop {
@@ -199,6 +205,7 @@ impl<'x> Expander<'x> {
                 return Ok(());
             }
             *unclosed = copy_open_invocation(
+                looks,
                 self.replacer.pool.alloc(),
                 &self.replacer.sets,
                 self.meter,
@@ -241,7 +248,7 @@ fn expand_stack<'x, 'a: 'x>(
 ) -> Result<Option<BoxedFault>, Memory>
     requires level { context.now.level ≡ 0 }
     requires none { emitted.old ≡ [] }
-    ensures { IfOk result (λ r. (sets : HideSetPool) × ExpandsLeavingOpen context.now.table.now.macros context.now.env.now 0 meter.old
+    ensures { IfOk result (λ r. (sets : HideSetPool) × ExpandsLeavingOpen true context.now.table.now.macros context.now.env.now 0 meter.old
         (map unhidden (tokens_of stack.old.items))
         (record { tokens = hidings sets emitted.new; fault = r; meter = meter.new }) (tokens_of unclosed.new.items)) }
 {
@@ -249,7 +256,7 @@ fn expand_stack<'x, 'a: 'x>(
     expander.renew_sets(context.table.hashing())?;
     let pushed = mem::replace(stack, Vec::new(*stack.allocator()));
     let mut list = TokenStack::over(pushed, Default::default(), expander.replacer.sets.empty());
-    let outcome = expander.expand_leaving_open(context, &mut list, emitted, unclosed);
+    let outcome = expander.expand_leaving_open(context, true, &mut list, emitted, unclosed);
     *meter = expander.meter;
     keep_stack(stack, list.into_pushed());
     match outcome {

@@ -49,7 +49,7 @@ abbrev pub opens_after_name : List Hiding → Bool
 opens_after_name [] = false
 opens_after_name (t ∷ rest) = stays_open rest
 
--- a list has this outcome, and these tokens are left open
-pub record ExpandsLeavingOpen (macros : Macros) (env : Env) (level : ℕ) (meter : Meter) (list : List Hiding) (out : Outcome) (open' : List Token) : Type 0 where
+-- a list has this outcome, and if they are looked for, these tokens are left open
+pub record ExpandsLeavingOpen (looks : Bool) (macros : Macros) (env : Env) (level : ℕ) (meter : Meter) (list : List Hiding) (out : Outcome) (open' : List Token) : Type 0 where
   pub expands : ExpandsTo macros env level meter list out
-  pub open_is : open' ≡ still_open macros out.fault (stopped_at macros env expands.1)
+  pub open_is : looks ≡ true → open' ≡ still_open macros out.fault (stopped_at macros env expands.1)

@@ -20,8 +20,8 @@ at_start : (macros : Macros) (env : Env) (level : ℕ) (meter first : Meter) (li
 at_start macros env level meter first list start out low kept same one =
     subst (λ l. ExpandsTo macros env 0 first l out) same (subst (λ m. ExpandsTo macros env 0 m list out) kept (subst (λ n. ExpandsTo macros env n meter list out) low one))
 
-pub expand_list-outcome-requires-clause-known : goal.expand_list-outcome-requires-clause-known
-expand_list-outcome-requires-clause-known c =
+pub expand_leaving_open-outcome-requires-clause-known : goal.expand_leaving_open-outcome-requires-clause-known
+expand_leaving_open-outcome-requires-clause-known c =
     let s = c.renew_sets.new.self.replacer.sets in
     subst (AllKnown s) (sym c.over-list.ensures) (known-with_set s c.empty.result _ c.empty.ensures.known)
 
@@ -31,7 +31,7 @@ returns-in-Ok c =
     let tokens = tokens_of c.args.stack.now.items ++ c.args.tokens.now in
     let start : hidings s c.over-list.result ≡ map unhidden tokens =
     ap (hidings s) (c.over-list.ensures ∙ (λ i. map (with_set c.empty.result) (tokens_of (c.replace-pushed.ensures.value i).items ++ c.args.tokens.now))) ∙ hidings-with_set s c.empty.result tokens c.empty.ensures.set in
-    (c.expand_list-outcome.new.self.replacer.sets, at_start _ _ _ _ _ _ _ _ c.requires.level c.renew_sets.ensures.meter start (rw c.in-Ok.is at c.expand_list-outcome.ensures.outcome))
+    (c.expand_leaving_open-outcome.new.self.replacer.sets, at_start _ _ _ _ _ _ _ _ c.requires.level c.renew_sets.ensures.meter start (rw c.in-Ok.is at c.expand_leaving_open-outcome.ensures).expands)
 
 pub returns-in-Err-Fault : goal.returns-in-Err-Fault
 returns-in-Err-Fault c =
@@ -39,5 +39,5 @@ returns-in-Err-Fault c =
     let tokens = tokens_of c.args.stack.now.items ++ c.args.tokens.now in
     let start : hidings s c.over-list.result ≡ map unhidden tokens =
     ap (hidings s) (c.over-list.ensures ∙ (λ i. map (with_set c.empty.result) (tokens_of (c.replace-pushed.ensures.value i).items ++ c.args.tokens.now))) ∙ hidings-with_set s c.empty.result tokens c.empty.ensures.set in
-    let raised = rw c.in-Err-Fault.field-0-is at (rw c.in-Err-Fault.is at c.expand_list-outcome.ensures.outcome) in
-    (c.expand_list-outcome.new.self.replacer.sets, at_start _ _ _ _ _ _ _ _ c.requires.level c.renew_sets.ensures.meter start raised)
+    let raised = rw c.in-Err-Fault.field-0-is at (rw c.in-Err-Fault.is at c.expand_leaving_open-outcome.ensures) in
+    (c.expand_leaving_open-outcome.new.self.replacer.sets, at_start _ _ _ _ _ _ _ _ c.requires.level c.renew_sets.ensures.meter start raised.expands)

@@ -60,8 +60,8 @@ if_copied (Ok a) P Q more h = more a h
 if_copied (Err e) P Q more h = tt
 
 pub returns-in_default-clause-is : goal.returns-in_default-clause-is
-returns-in_default-clause-is c = λ macros named.
-    ap tokens_of c.new.ensures.items ∙ none_open macros c.args.sets.now c.args.list.now (option_copied c.args.named) (is_exhausted c.args.meter) named (ap (λ o. names_function_like (option_copied o)) c.in_default.is)
+returns-in_default-clause-is c = λ looked macros named.
+    ap tokens_of c.new-in_default.ensures.items ∙ none_open macros c.args.sets.now c.args.list.now (option_copied c.args.named) (is_exhausted c.args.meter) named (ap (λ o. names_function_like (option_copied o)) c.in_default.is)
 
 pub returns-then-not-matches-clause-is : goal.returns-then-not-matches-clause-is
 returns-then-not-matches-clause-is c =
@@ -69,7 +69,7 @@ returns-then-not-matches-clause-is c =
       | in-FunctionLike w ↦ absurd (true≢false (sym w.matches-is ∙ c.if-not-matches.true))
       | in_default-matches w ↦ ap is_function_like (sym c.kind.ensures) ∙ unlike c.kind.result.now w.in_default-matches.not-FunctionLike
     ] in
-    λ macros named.
+    λ looked macros named.
     ap tokens_of c.new-then-not-matches.ensures.items
     ∙ none_open macros c.args.sets.now c.args.list.now (option_copied c.args.named) (is_exhausted c.args.meter) named (ap (λ o. names_function_like (option_copied o)) c.in-Some.is ∙ other)
 
@@ -79,6 +79,6 @@ returns-clause-is c =
       | in-FunctionLike w ↦ ap is_function_like (sym c.kind.ensures ∙ w.in-FunctionLike.is)
       | in_default-matches w ↦ absurd (true≢false (sym c.if-not-matches.false ∙ w.matches-is))
     ] in
-    if_copied c.copy_if_open.result _ _ (λ copy is macros named.
+    if_copied c.copy_if_open.result _ _ (λ copy is looked macros named.
     some_open macros c.args.sets.now c.args.list.now copy.items (option_copied c.args.named) (is_exhausted c.args.meter) named (ap (λ o. names_function_like (option_copied o)) c.in-Some.is ∙ function_like)
     (sym c.is_exhausted.ensures ∙ c.if-is_exhausted.false) is) c.copy_if_open.ensures.is

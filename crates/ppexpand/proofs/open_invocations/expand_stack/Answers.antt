@@ -1,4 +1,4 @@
-use Rattle.std.proofs.Common.{◌≡◌, ◌∙◌, ℕ, List, ◌++◌, sym, ap, subst, map, append-nil}
+use Rattle.std.proofs.Common.{◌≡◌, ◌∙◌, ℕ, List, ◌++◌, sym, ap, subst, map, append-nil, true}
 use Rattle.pptext.specs.declared.tokens.Token.{Token}
 use Rattle.ppmacro.specs.Names.{Macros}
 use Rattle.ppmacro.specs.Hiding.{Hiding}
@@ -17,11 +17,11 @@ at_start : (macros : Macros) (env : Env) (level : ℕ) (meter first : Meter) (li
     → level ≡ 0
     → meter ≡ first
     → list ≡ start
-    → ExpandsLeavingOpen macros env level meter list out open'
-    → ExpandsLeavingOpen macros env 0 first start out open'
+    → ExpandsLeavingOpen true macros env level meter list out open'
+    → ExpandsLeavingOpen true macros env 0 first start out open'
 at_start macros env level meter first list start out open' low kept same one =
-    subst (λ l. ExpandsLeavingOpen macros env 0 first l out open') same
-    (subst (λ m. ExpandsLeavingOpen macros env 0 m list out open') kept (subst (λ n. ExpandsLeavingOpen macros env n meter list out open') low one))
+    subst (λ l. ExpandsLeavingOpen true macros env 0 first l out open') same
+    (subst (λ m. ExpandsLeavingOpen true macros env 0 m list out open') kept (subst (λ n. ExpandsLeavingOpen true macros env n meter list out open') low one))
 
 pub expand_leaving_open-outcome-requires-clause-known : goal.expand_leaving_open-outcome-requires-clause-known
 expand_leaving_open-outcome-requires-clause-known c =

@@ -1,4 +1,4 @@
-use Rattle.std.proofs.Common.{◌∙◌, [], None, sym, ap, subst, arith, if◌then◌else◌}
+use Rattle.std.proofs.Common.{◌∙◌, [], None, sym, ap, subst, arith, if◌then◌else◌, ◌≡◌, true}
 use Rattle.pptext.proofs.ErrorReturns.{stopped}
 use Rattle.ppmacro.specs.HideSets.{hidings, AllKnown}
 use Rattle.ppmacro.specs.Substituting.{tokens_of}
@@ -72,7 +72,8 @@ returns-in_err-continues c =
     (follows_pass macros env level c.args.self.now.meter start 0 c.loop-named.self.meter (hidings before c.loop-named.list) (hidings before c.loop-named.emitted) meter
     (hidings sets c.pass_lone.new.list) (hidings sets emitted) c.in_ok-named.ensures.passed c.loop-named.invariant.follows) in
     let on = subst (λ l. Reaches macros env level c.args.self.now.meter start meter (hidings sets l)) same (reaches_pass macros env level c.loop-named.invariant.reaches c.in_ok-named.ensures.passed) in
-    let copied = c.in_ok-unclosed.ensures.is macros c.in_ok-named.ensures.named
+    let copied : c.args.looks ≡ true → tokens_of c.in_ok-unclosed.field-0.items ≡ (if is_exhausted meter then [] else open_tokens macros (hidings sets list)) =
+    λ looked. c.in_ok-unclosed.ensures.is looked macros c.in_ok-named.ensures.named
     ∙ (λ i. if is_exhausted meter then [] else open_tokens macros (hidings sets (same i))) in
     stopped _ _ _ _ c.from_residual-in_err-continues.ensures.1 c.in_err-continues.ensures.progress (λ f ended.
     leaves_tokens macros env level c.args.self.now.meter start (hidings sets emitted) meter (hidings sets list) f c.advance-continues.new.self.meter
