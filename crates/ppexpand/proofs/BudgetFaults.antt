@@ -8,7 +8,7 @@ use Rattle.pptext.specs.declared.tokens.Kind.{Kind}
 use Rattle.pptext.specs.Tokens.{is_unmatched_quote, fault}
 use Rattle.ppmacro.specs.Names.{Name, HideSet, Macros}
 use Rattle.ppmacro.specs.Hiding.{Hiding}
-use Rattle.ppmacro.specs.Chains.{chains_of}
+use Rattle.ppmacro.specs.VaOptChains.{ListChains, Ordinary, WithVaOpt, list_chains}
 use Rattle.ppmacro.specs.Lexing.{kind_of}
 use Rattle.ppmacro.specs.declared.macros.Variadic.{Variadic}
 use Rattle.ppmacro.specs.declared.macros.MacroKind.{MacroKind}
@@ -19,7 +19,7 @@ use Rattle.ppmacro.specs.declared.macros.Operand.{Operand}
 use Rattle.ppmacro.specs.declared.macros.Operand.TheVariants.{Tok, Param, Str, VariadicAfterComma}
 use Rattle.ppmacro.specs.Substitution.{string_text, string_token, is_string_literal, stringized, pasted_as, pasted, after_ok, join, join_all, Arguments, argument_at, operand_tokens, operands_tokens}
 use Rattle.ppmacro.specs.Substitution.{is_joined, before_variadic, chain_tokens, Replacement}
-use Rattle.ppmacro.specs.Substitution.{chains_tokens, macro_replacement}
+use Rattle.ppmacro.specs.Substitution.{chains_tokens, chains_replacement, contents_tokens, with_contents, is_filled, filled_replacement, replacement_by, macro_replacement}
 use Rattle.ppexpand.specs.declared.env.Env.{Env}
 use Rattle.ppexpand.specs.declared.meter.Meter.{Meter}
 use Rattle.ppexpand.specs.Arguments.{is_open, Gathered, Closed, UnmatchedQuote, Unclosed, gather, separators, fit_arguments}
@@ -88,8 +88,23 @@ below_chains args used pending first [] = tt
 below_chains args used pending first (c ∷ cs) =
     below_after (chain_tokens args used c) _ (below_chain args used c) (λ ts. below_after (chains_tokens args used _ false cs) _ (below_chains args used _ false cs) (λ rest. tt))
 
+below_list : (cs : List Chain) (args : Arguments) (names_to_hide : HideSet) (used : Place) (space : Bool) → IsBelow (chains_replacement cs args names_to_hide used space)
+below_list cs args names_to_hide used space = below_after (chains_tokens args used space true cs) _ (below_chains args used space true cs) (λ m. tt)
+
+below_contents : (args : Arguments) (used : Place) (cs : List (List Chain)) → IsBelow (contents_tokens args used cs)
+below_contents args used [] = tt
+below_contents args used (c ∷ cs) =
+    below_after (chains_tokens args used false true c) _ (below_chains args used false true c) (λ m. below_after (contents_tokens args used cs) _ (below_contents args used cs) (λ rest. tt))
+
+below_by : (c : ListChains) (args : Arguments) (names_to_hide : HideSet) (used : Place) (space : Bool) → IsBelow (replacement_by c args names_to_hide used space)
+below_by (Ordinary cs) args names_to_hide used space = below_list cs args names_to_hide used space
+below_by (WithVaOpt c) args names_to_hide used space =
+    below_either (is_filled c args) (filled_replacement c args names_to_hide used space) (chains_replacement c.if_empty args names_to_hide used space)
+    (below_after (contents_tokens args used c.contents) _ (below_contents args used c.contents) (λ lists. below_list c.if_filled (with_contents args lists) names_to_hide used space))
+    (below_list c.if_empty args names_to_hide used space)
+
 below_substituted : (d : Macro) (args : Arguments) (names_to_hide : HideSet) (used : Place) (space : Bool) → IsBelow (macro_replacement d args names_to_hide used space)
-below_substituted d args names_to_hide used space = below_after (chains_tokens args used space true (chains_of d)) _ (below_chains args used space true (chains_of d)) (λ m. tt)
+below_substituted d args names_to_hide used space = below_by (list_chains d) args names_to_hide used space
 
 -- ---- expansion steps: faults 7, 17 and 18, and the faults of substitution
 

@@ -14,11 +14,12 @@ use Rattle.ppmacro.specs.Names.{Name, HideSet, Macros}
 use Rattle.ppmacro.specs.Hiding.{Hiding}
 use Rattle.ppmacro.specs.code.Members.{same_name}
 use Rattle.ppmacro.specs.declared.macros.Macro.{Macro}
+use Rattle.ppmacro.specs.declared.macros.Chain.{Chain}
 use Rattle.ppmacro.specs.declared.macros.Variadic.{Variadic}
 use Rattle.ppmacro.specs.declared.macros.MacroKind.{MacroKind}
 use Rattle.ppmacro.specs.declared.macros.MacroKind.TheVariants.{Predefined, ObjectLike, FunctionLike, Counter}
-use Rattle.ppmacro.specs.Chains.{chains_of}
-use Rattle.ppmacro.specs.Substitution.{Arguments, Replacement, macro_replacement, after_ok, chains_tokens, hsadd}
+use Rattle.ppmacro.specs.VaOptChains.{ListChains, Ordinary, WithVaOpt, list_chains}
+use Rattle.ppmacro.specs.Substitution.{Arguments, Replacement, macro_replacement, after_ok, chains_tokens, chains_replacement, contents_tokens, with_contents, is_filled, filled_replacement, replacement_by, hsadd}
 use Rattle.ppexpand.specs.Arguments.{Gathered, Closed, UnmatchedQuote, Unclosed, argument_role, gather, separators, fit_arguments, separates, fewer, with_token, with_argument, is_open, Quote, Open, Close, Comma, Inner}
 use Rattle.ppexpand.specs.declared.env.Env.{Env}
 use Rattle.ppexpand.specs.declared.meter.Meter.{Meter}
@@ -55,10 +56,27 @@ names_after (Ok n) names_to_hide used m e =
     subst (AllByRecursion (HasNamesToHide names_to_hide)) tokens (all_have_names names_to_hide used n.tokens)
 names_after (Err f) names_to_hide used m e = absurd (cc)
 
+contents_names : (r : Result (List (List Hiding)) Fault) (cs : List Chain) (args : Arguments) (names_to_hide : HideSet) (used : Place) (space : Bool) (m : Replacement)
+    → after_ok r (λ lists. chains_replacement cs (with_contents args lists) names_to_hide used space) ≡ Ok m
+    → AllByRecursion (HasNamesToHide names_to_hide) m.tokens
+contents_names (Ok lists) cs args names_to_hide used space m e = names_after (chains_tokens (with_contents args lists) used space true cs) names_to_hide used m e
+contents_names (Err f) cs args names_to_hide used space m e = absurd (cc)
+
+list_names : (c : ListChains) (args : Arguments) (names_to_hide : HideSet) (used : Place) (space : Bool) (m : Replacement)
+    → replacement_by c args names_to_hide used space ≡ Ok m
+    → AllByRecursion (HasNamesToHide names_to_hide) m.tokens
+list_names (Ordinary cs) args names_to_hide used space m e = names_after (chains_tokens args used space true cs) names_to_hide used m e
+list_names (WithVaOpt c) args names_to_hide used space m e =
+    elim (is_filled c args) as (λ b. (if b then filled_replacement c args names_to_hide used space else chains_replacement c.if_empty args names_to_hide used space) ≡ Ok m
+    → AllByRecursion (HasNamesToHide names_to_hide) m.tokens) [
+      | true ↦ λ h. contents_names (contents_tokens args used c.contents) c.if_filled args names_to_hide used space m h
+      | false ↦ λ h. names_after (chains_tokens args used space true c.if_empty) names_to_hide used m h
+    ] e
+
 pub substituted_names : (d : Macro) (args : Arguments) (names_to_hide : HideSet) (used : Place) (space : Bool) (m : Replacement)
     → macro_replacement d args names_to_hide used space ≡ Ok m
     → AllByRecursion (HasNamesToHide names_to_hide) m.tokens
-substituted_names d args names_to_hide used space m e = names_after (chains_tokens args used space true (chains_of d)) names_to_hide used m e
+substituted_names d args names_to_hide used space m e = list_names (list_chains d) args names_to_hide used space m e
 
 -- a name with a macro is a key of the table
 pub among_names : (macros : Macros) (k : Name) (d : Macro) → table.get macros k ≡ Some d → table.contains_key macros k ≡ true

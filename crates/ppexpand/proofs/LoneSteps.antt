@@ -18,7 +18,9 @@ use Rattle.ppmacro.specs.HideSetPool.{HideSetPool}
 use Rattle.ppmacro.specs.Hiding.{Hiding}
 use Rattle.ppmacro.specs.HideSets.{set_at, IsKnown, hide_of, hiding, hidings, AllKnown, KeepsSets}
 use Rattle.ppmacro.specs.Substituting.{tokens_of}
-use Rattle.ppmacro.specs.Substitution.{chains_replacement, hsadd, with_space, unhidden}
+use Rattle.ppmacro.specs.Substitution.{chains_replacement, replacement_by, hsadd, with_space, unhidden}
+use Rattle.ppmacro.specs.VaOptChains.{Ordinary}
+use Rattle.ppmacro.proofs.VaOptLemmas.{object-list}
 use Rattle.ppmacro.specs.declared.hidden_token.Hidden.{Hidden}
 use Rattle.ppmacro.specs.declared.macros.Macro.{Macro}
 use Rattle.ppmacro.specs.code.Members.{same_name}
@@ -123,7 +125,8 @@ module _ (macros : Macros) (env : Env) (meter : Meter) (t : Hiding) (following :
   lone_name body lone chains remains free s hide rest names kept =
       ap (in_budget meter (t ∷ following)) (expansion_step-named macros env t following (named_unquoted macros t.token m named) free ∙ ap (named_step env t following) named
       ∙ ap (macro_step env t following m) (object_like m.kind (lone_kind m body lone))
-      ∙ ap (λ cs. replaced_by (chains_replacement cs no_arguments (set.insert t.hide t.token.text) t.token.used t.token.space) following) chains
+      ∙ ap (λ cs. replaced_by (replacement_by cs no_arguments (set.insert t.hide t.token.text) t.token.used t.token.space) following)
+      (object-list m (lone_kind m body lone) ∙ ap Ordinary chains)
       ∙ lone_is s hide (set.insert t.hide t.token.text) t.token.used t.token.space body rest following names kept)
       ∙ free-in_budget meter (t ∷ following) _ remains
 

@@ -14,7 +14,7 @@ ghost use Rattle.ppmacro.specs.declared.hidden_token.Hidden.{Hidden};
 ghost use Rattle.ppmacro.specs.HideSets.{set_at, IsKnown, HasSets, hide_of, hiding, hidings, AllKnown, KeepsSets};
 ghost use Rattle.ppmacro.specs.Substituting.{ArgumentsKnown, arguments_in, tokens_of};
 ghost use Rattle.ppmacro.specs.Patterns.{pattern_chains};
-ghost use Rattle.ppmacro.specs.Substitution.{macro_replacement, chains_replacement};
+ghost use Rattle.ppmacro.specs.Substitution.{macro_replacement, replacement_by};
 ghost use Rattle.ppexpand.specs.Arguments.{gather, separators};
 ghost use Rattle.ppexpand.specs.declared.env.Env.{Env};
 ghost use Rattle.ppexpand.specs.ExpansionStep.{Replaced, macro_of, replaced_by, no_arguments, predefined_value, counter_value, closed_invocation_step, invocation_step, function_step, macro_step};
@@ -172,7 +172,7 @@ impl<'x> Replacer<'x> {
         requires base { IsKnown self.old.sets base }
         requires list { AllKnown self.old.sets list.old }
         ensures is { UnlessOutOfMemory result (λ r. replaced_in self.new.sets list.new r
-            ≡ replaced_by (chains_replacement (pattern_chains pattern.now) (arguments_in self.old.sets arguments.entry.given.now arguments.entry.expanded.now)
+            ≡ replaced_by (replacement_by (pattern_chains pattern.now) (arguments_in self.old.sets arguments.entry.given.now arguments.entry.expanded.now)
             (set.insert (set_at self.old.sets base) name_token.now.token.text) name_token.now.token.used name_token.now.token.space)
             (hidings self.old.sets list.old)) }
         ensures known { OnOk result (AllKnown self.new.sets list.new) }

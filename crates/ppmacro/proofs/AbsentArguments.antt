@@ -1,5 +1,5 @@
 -- Without the rules of GNU C, no variable argument may be absent, and no chain has a `VariadicAfterComma`.
-use Rattle.std.proofs.Common.{◌≡◌, ◌∙◌, ap, subst, refl, true≢false, Bool, true, false, List, [], ◌∷◌, map, Option, Some, None, Result, Ok, Err, ℕ, codes, if◌then◌else◌}
+use Rattle.std.proofs.Common.{◌≡◌, ◌∙◌, ap, subst, refl, true≢false, Bool, true, false, ◌||◌, ◌&&◌, List, [], ◌∷◌, map, Option, Some, None, Result, Ok, Err, ℕ, codes, if◌then◌else◌}
 use Rattle.std.specs.List.{list_any}
 use Rattle.std.proofs.lemmas.Bool.{or_parts}
 use Rattle.pptext.specs.declared.sources.Profile.{Profile}
@@ -21,7 +21,7 @@ use Rattle.ppmacro.specs.declared.macros.Operand.{Operand}
 use Rattle.ppmacro.specs.Chains.{HashSign, ChainPart, OperandPart, PastePart, hash_sign, parameter_of, is_operator_hash, plain_part, stringized_part}
 use Rattle.ppmacro.specs.Chains.{parts_at, parts_after, begins_joined, join_first, group_parts, lenient_parameter, with_variadic, chains_of}
 use Rattle.ppmacro.specs.Define.{Named, Refusal, ParameterList, Spacing, VariableArguments}
-use Rattle.ppmacro.specs.Define.{repeats, has_variable_arguments, all_parameters, variadic_by, function_like, read_parameter_list, read_definition, refusal_of, unless_refused, check_body, with_macro_name, is_reserved, check_define}
+use Rattle.ppmacro.specs.Define.{repeats, has_variable_arguments, has_va_opt, all_parameters, variadic_by, function_like, read_parameter_list, read_definition, refusal_of, unless_refused, check_body, with_macro_name, is_reserved, check_define}
 use Rattle.ppmacro.specs.Laws.{is_variadic, holds_variadic}
 
 -- ---- definitions
@@ -45,9 +45,10 @@ function_strict : (p : Profile) (h : Option ParsedParameters) → is_gnu p ≡ f
 function_strict p None g = tt
 function_strict p (Some h) g =
     let d : Macro = record { kind = FunctionLike (all_parameters h.ending h.names) (variadic_by (is_gnu p) h.ending); body = h.body } in
-    let taken : Result Macro Refusal = if has_variable_arguments h.names then Err VariableArguments else Ok d in
+    let barred : Bool = has_variable_arguments h.names || (is_gnu p && has_va_opt h.names) in
+    let taken : Result Macro Refusal = if barred then Err VariableArguments else Ok d in
     strict_either (repeats h.names) (Err ParameterList) taken tt
-    (strict_either (has_variable_arguments h.names) (Err VariableArguments) (Ok d) tt (strict_by (is_gnu p) (all_parameters h.ending h.names) h.ending g))
+    (strict_either barred (Err VariableArguments) (Ok d) tt (strict_by (is_gnu p) (all_parameters h.ending h.names) h.ending g))
 
 read_strict : (p : Profile) (ts : List Token) → is_gnu p ≡ false → IsStrict (read_definition p ts)
 read_strict p [] g = refl

@@ -1,8 +1,8 @@
 -- The parameters that a replacement list uses without `#` and `##`, in their own order and in that of their first uses.
-use Rattle.std.proofs.Common.{◌≡◌, ◌∙◌, refl, sym, ap, subst, Bool, true, false, ◌||◌, ◌==◌, ℕ, zero, suc, ◌+◌, ◌<◌, ◌≤◌, List, [], ◌∷◌, ◌++◌, map, length, get_or, set, position, Option, Some, None, IfSome, cond, append-nil, arith, if◌then◌else◌}
-use Rattle.std.specs.List.{list_any, filter, fold, range_with_len, AllByRecursion}
+use Rattle.std.proofs.Common.{◌≡◌, ◌∙◌, refl, sym, ap, subst, Bool, true, false, ◌||◌, ◌==◌, ℕ, zero, suc, ◌+◌, ◌<◌, ◌≤◌, List, [], ◌∷◌, ◌++◌, map, length, get_or, set, position, Option, Some, None, IfSome, cond, append-nil, arith, nat_lt, if◌then◌else◌}
+use Rattle.std.specs.List.{list_any, filter, fold, flat_map, range_with_len, AllByRecursion}
 use Rattle.std.specs.Str.{bytes_eq}
-use Rattle.std.proofs.lemmas.Bool.{eqb-true, ne_eqb, eqb-false}
+use Rattle.std.proofs.lemmas.Bool.{eqb-true, ne_eqb, eqb-false, ltb-true}
 use Rattle.std.proofs.Math.Bool.{or-false, or-true}
 use Rattle.std.proofs.lemmas.List.{get_or-set_same, get_or-set_other, length-set, map-id}
 use Rattle.std.proofs.lemmas.List.Folds.{list_any-append}
@@ -21,7 +21,8 @@ use Rattle.ppmacro.specs.declared.macros.Operand.{Operand}
 use Rattle.ppmacro.specs.declared.macros.Operand.TheVariants.{Tok, Param, Str, VariadicAfterComma}
 use Rattle.ppmacro.specs.Chains.{HashSign, ChainPart, OperandPart, PastePart, hash_sign, parameter_names, parameter_named, parameter_of, is_operator_hash, plain_part, stringized_part}
 use Rattle.ppmacro.specs.Chains.{parts_at, parts_after, begins_joined, join_first, group_parts, lenient_parameter, ending_in_variadic, with_variadic, chains_of}
-use Rattle.ppmacro.specs.PreExpansion.{is_lone_parameter, pre_expands, used_parameters, lone_parameter, lone_parameters, with_use, first_uses, expansion_order}
+use Rattle.ppmacro.specs.PreExpansion.{is_lone_parameter, pre_expands, used_parameters, lone_parameter, lone_parameters, with_use, first_uses, own_use, after_own, uses_of_chain, va_opt_uses, order_in, order_by, expansion_order}
+use Rattle.ppmacro.specs.VaOptChains.{VaOptChains, ListChains, Ordinary, WithVaOpt, list_chains}
 use Rattle.ppmacro.specs.code.PreparedDefinitions.{is_use, AreMarked}
 
 -- ---- a chain that is a parameter alone has one of the macro's parameters
@@ -277,10 +278,35 @@ uses_below : (n : ℕ) (seen : List ℕ) (us : List (Option ℕ)) → AreBelow n
 uses_below n seen [] h k = h
 uses_below n seen (u ∷ us) h k = uses_below n (with_use seen u) us (with_below n seen u h k.0) k.1
 
-order_below : (profile : Profile) (d : Macro) → AreBelow (length (parameter_names d.kind)) (expansion_order profile d)
+own_within : (n : ℕ) (u : Option ℕ) → IsWithin n (own_use n u)
+own_within n None = tt
+own_within n (Some i) = below_if n i (nat_lt i n) refl
+  where
+    below_if : (n i : ℕ) (b : Bool) → nat_lt i n ≡ b → IsWithin n (if b then Some i else None)
+    below_if n i true is = ltb-true i n is
+    below_if n i false is = tt
+
+own_uses_within : (n : ℕ) (us : List (Option ℕ)) → AllByRecursion (IsWithin n) (map (own_use n) us)
+own_uses_within n [] = tt
+own_uses_within n (u ∷ us) = (own_within n u, own_uses_within n us)
+
+-- The same for the uses of a list with `__VA_OPT__`.
+pub va_opt_uses_within : (n : ℕ) (c : VaOptChains) (us : List (Option ℕ)) → us ≡ va_opt_uses n c
+    → (k : ℕ) → k < length us
+    → IfSome (get_or us k None) (λ i. i < n)
+va_opt_uses_within n c us is =
+    use_within n us (subst (AllByRecursion (IsWithin n)) (sym is) (own_uses_within n (flat_map (uses_of_chain (after_own n c.contents)) c.if_filled ++ Some c.variadic ∷ [])))
+
+order_below : (profile : Profile) (d : Macro) → AreBelow (length (parameter_names d.kind)) (order_in profile d)
 order_below C11 d = filtered_below (λ i. pre_expands i (chains_of d)) (length (parameter_names d.kind)) 0 (length (parameter_names d.kind)) (omega arith)
 order_below Later d = filtered_below (λ i. pre_expands i (chains_of d)) (length (parameter_names d.kind)) 0 (length (parameter_names d.kind)) (omega arith)
 order_below Gnu d = uses_below (length (parameter_names d.kind)) [] (lone_parameters (chains_of d)) tt (macro_within d)
+
+order_by_below : (profile : Profile) (d : Macro) (chains : ListChains) → AreBelow (length (parameter_names d.kind)) (order_by profile d chains)
+order_by_below profile d (Ordinary cs) = order_below profile d
+order_by_below profile d (WithVaOpt c) =
+    let n = length (parameter_names d.kind) in
+    uses_below n [] (va_opt_uses n c) tt (own_uses_within n (flat_map (uses_of_chain (after_own n c.contents)) c.if_filled ++ Some c.variadic ∷ []))
 
 below_at : (n : ℕ) (is : List ℕ) (k d : ℕ) → AreBelow n is → k < length is → get_or is k d < n
 below_at n [] k d h less = absurd (omega (arith, less))
@@ -292,4 +318,4 @@ pub order_within : (profile : Profile) (d : Macro) (order : List ℕ) → order 
     → (k : ℕ) → k < length order
     → get_or order k 0 < length (parameter_names d.kind)
 order_within profile d order is k less =
-    below_at (length (parameter_names d.kind)) order k 0 (subst (AreBelow (length (parameter_names d.kind))) (sym is) (order_below profile d)) less
+    below_at (length (parameter_names d.kind)) order k 0 (subst (AreBelow (length (parameter_names d.kind))) (sym is) (order_by_below profile d (list_chains d))) less

@@ -68,3 +68,15 @@ pub mod TableFreeDefinitions
 pub mod DefineLines
 -- The parameters that a replacement list uses without `#` and `##`, in their own order and in that of their first uses.
 pub mod ExpansionOrders
+-- Replacement lists with `__VA_OPT__`, and those without.
+pub mod VaOptLemmas
+-- A replacement list whose contents are taken out from left to right, one token at a time. It has the syntax of `WithContents`.
+pub mod VaOptReading
+-- The parts of a replacement list with `__VA_OPT__`, one after another.
+pub mod VaOptParts
+-- The contents of `__VA_OPT__` as chains.
+pub mod VaOptContents
+-- The contents in the places of the `__VA_OPT__`, one part at a time.
+pub mod VaOptFilling
+-- Arguments, followed by the tokens of the contents of `__VA_OPT__`.
+pub mod ContentArguments

@@ -1,7 +1,8 @@
 -- A `#define` line by itself: its replacement list is the end of the line, and the table decides only whether its name has a different
 -- definition.
-use Rattle.std.proofs.Common.{◌≡◌, ◌∙◌, ◌<◌, Bool, true, false, not, ◌&&◌, List, [], ◌∷◌, Option, Some, None, Result, Ok, Err, IfSome, IfOk, length, get_or, codes, refl, sym, ap, if◌then◌else◌, arith}
+use Rattle.std.proofs.Common.{◌≡◌, ◌∙◌, ◌<◌, Bool, true, false, not, ◌&&◌, ◌||◌, List, [], ◌∷◌, Option, Some, None, Result, Ok, Err, IfSome, IfOk, length, get_or, codes, refl, sym, ap, if◌then◌else◌, arith}
 use Rattle.std.specs.Option.{option_map}
+use Rattle.std.specs.List.{list_any}
 use Rattle.std.specs.FinMap as table
 use Rattle.std.specs.Ordering.{nat_cmp}
 use Rattle.std.specs.Cmp.Lexicographic.{slice_cmp}
@@ -17,8 +18,9 @@ use Rattle.ppmacro.specs.Chains.{is_function_like}
 use Rattle.ppmacro.specs.declared.macros.Macro.{Macro}
 use Rattle.ppmacro.specs.declared.defining.parameter_lists.Ending.{Ending}
 use Rattle.ppmacro.specs.declared.defining.parameter_lists.Ending.TheVariants.{NoEllipsis, Ellipsis, NamedEllipsis}
-use Rattle.ppmacro.specs.Define.{Named, Refusal, ParameterList, Spacing, Pasting, Stringizing, VariableArguments, Redefinition, close_parameters, with_name, after_parameter_name, parameters_from, read_parameter_list, repeats, has_variable_arguments, function_like, read_definition}
-use Rattle.ppmacro.specs.Define.{misplaces_variable_arguments, misplaces_paste, misplaces_hash, is_conflicting, is_reserved, refusal_of, unless_refused, check_body, number_of, with_macro_name, check_define}
+use Rattle.ppmacro.specs.Define.{Named, Refusal, ParameterList, Spacing, Pasting, Stringizing, VariableArguments, Redefinition, close_parameters, with_name, after_parameter_name, parameters_from, read_parameter_list, repeats, has_variable_arguments, has_va_opt, function_like, read_definition}
+use Rattle.ppmacro.specs.Define.{misplaces_variable_arguments, misplaces_paste, misplaces_hash, is_conflicting, is_reserved, plain_refusal, va_opt_refusal, refusal_of, unless_refused, check_body, number_of, with_macro_name, check_define}
+use Rattle.ppmacro.specs.VaOpt.{is_va_opt, separated}
 use Rattle.ppmacro.specs.code.Defining.{unless_conflicting, IsEnd}
 
 -- ---- the replacement list is the end of the line
@@ -69,7 +71,7 @@ BodyEnds ts r = IfOk r (λ d. IsEnd d.body ts)
 
 function-end : (p : Profile) (ts : List Token) (o : Option ParsedParameters) → EndsIn ts o → BodyEnds ts (function_like p o)
 function-end p ts None is = tt
-function-end p ts (Some h) is = choice (BodyEnds ts) (repeats h.names) (Err ParameterList) _ tt (choice (BodyEnds ts) (has_variable_arguments h.names) (Err VariableArguments) _ tt is)
+function-end p ts (Some h) is = choice (BodyEnds ts) (repeats h.names) (Err ParameterList) _ tt (choice (BodyEnds ts) (has_variable_arguments h.names || (is_gnu p && has_va_opt h.names)) (Err VariableArguments) _ tt is)
 
 later : (t : Token) (ts : List Token) (r : Result Macro Refusal) → BodyEnds ts r → BodyEnds (t ∷ ts) r
 later t ts (Ok d) is = (t ∷ is.0, ap (λ us. t ∷ us) is.1)
@@ -117,7 +119,7 @@ pub unrefusable : (p : Profile) (name : Name) (d : Macro)
     → misplaces_variable_arguments d.kind d.body ≡ false
     → misplaces_paste true d.body ≡ false
     → (is_function_like d.kind && misplaces_hash d.kind d.body) ≡ false
-    → option_map number_of (refusal_of p table.empty name d) ≡ None
+    → option_map number_of (plain_refusal p table.empty name d) ≡ None
 unrefusable p name d a b c = rw a (rw b (rw c (rw (no-conflict (not (is_gnu p)) d name) refl)))
 
 -- the outcome of the checks, the last of which is `conflict`
@@ -145,11 +147,10 @@ fault-stays false true c conflict at name d f is = is
 fault-stays false false true conflict at name d f is = is
 fault-stays false false false conflict at name d f is = absurd (cc is)
 
-body-conflict : (p : Profile) (m : Macros) (at : Place) (name : Name) (r : Result Macro Refusal) (n : Named)
-    → with_macro_name at name (check_body p table.empty name r) ≡ Ok n
-    → with_macro_name at name (check_body p m name r) ≡ unless_conflicting p m at n
-body-conflict p m at name (Err x) n is = absurd (cc is)
-body-conflict p m at name (Ok d) n is =
+plain-conflict : (p : Profile) (m : Macros) (at : Place) (name : Name) (d : Macro) (n : Named)
+    → with_macro_name at name (unless_refused (plain_refusal p table.empty name d) d) ≡ Ok n
+    → with_macro_name at name (unless_refused (plain_refusal p m name d) d) ≡ unless_conflicting p m at n
+plain-conflict p m at name d n is =
     let a = misplaces_variable_arguments d.kind d.body in
     let b = misplaces_paste true d.body in
     let c = is_function_like d.kind && misplaces_hash d.kind d.body in
@@ -157,16 +158,49 @@ body-conflict p m at name (Ok d) n is =
     let both = conflict-alone a b c (not (is_gnu p) && is_conflicting (table.get m name) d) at name d n free in
     both.1 ∙ ap (λ k. if not (is_gnu p) && is_conflicting (table.get m k.name) k.definition then Err (fault 16 at k.name) else Ok n) (sym both.0)
 
-body-fault : (p : Profile) (m : Macros) (at : Place) (name : Name) (r : Result Macro Refusal) (f : Fault)
-    → with_macro_name at name (check_body p table.empty name r) ≡ Err f
-    → with_macro_name at name (check_body p m name r) ≡ Err f
-body-fault p m at name (Err x) f is = is
-body-fault p m at name (Ok d) f is =
+plain-fault : (p : Profile) (m : Macros) (at : Place) (name : Name) (d : Macro) (f : Fault)
+    → with_macro_name at name (unless_refused (plain_refusal p table.empty name d) d) ≡ Err f
+    → with_macro_name at name (unless_refused (plain_refusal p m name d) d) ≡ Err f
+plain-fault p m at name d f is =
     let a = misplaces_variable_arguments d.kind d.body in
     let b = misplaces_paste true d.body in
     let c = is_function_like d.kind && misplaces_hash d.kind d.body in
     let free = ap (λ conflict. with_macro_name at name (unless_refused (refusal_by a b c conflict) d)) (sym (no-conflict (not (is_gnu p)) d name)) ∙ is in
     fault-stays a b c (not (is_gnu p) && is_conflicting (table.get m name) d) at name d f free
+
+-- In GNU C the table decides nothing about a definition with `__VA_OPT__`.
+either-conflict : (gnu has conflict : Bool) (own free full : Option Refusal) (at : Place) (name : Name) (d : Macro) (f : Fault) (n : Named)
+    → with_macro_name at name (unless_refused (if gnu && has then own else free) d) ≡ Ok n
+    → (with_macro_name at name (unless_refused free d) ≡ Ok n → with_macro_name at name (unless_refused full d) ≡ (if not gnu && conflict then Err f else Ok n))
+    → with_macro_name at name (unless_refused (if gnu && has then own else full) d) ≡ (if not gnu && conflict then Err f else Ok n)
+either-conflict true true conflict own free full at name d f n is next = is
+either-conflict true false conflict own free full at name d f n is next = next is
+either-conflict false has conflict own free full at name d f n is next = next is
+
+either-fault : (b : Bool) (own free full : Option Refusal) (at : Place) (name : Name) (d : Macro) (f : Fault)
+    → with_macro_name at name (unless_refused (if b then own else free) d) ≡ Err f
+    → (with_macro_name at name (unless_refused free d) ≡ Err f → with_macro_name at name (unless_refused full d) ≡ Err f)
+    → with_macro_name at name (unless_refused (if b then own else full) d) ≡ Err f
+either-fault true own free full at name d f is next = is
+either-fault false own free full at name d f is next = next is
+
+body-conflict : (p : Profile) (m : Macros) (at : Place) (name : Name) (r : Result Macro Refusal) (n : Named)
+    → with_macro_name at name (check_body p table.empty name r) ≡ Ok n
+    → with_macro_name at name (check_body p m name r) ≡ unless_conflicting p m at n
+body-conflict p m at name (Err x) n is = absurd (cc is)
+body-conflict p m at name (Ok d) n is =
+    either-conflict (is_gnu p) (list_any is_va_opt d.body) (is_conflicting (table.get m n.name) n.definition)
+    (va_opt_refusal d (separated d)) (plain_refusal p table.empty name d) (plain_refusal p m name d)
+    at name d (fault 16 at n.name) n is (plain-conflict p m at name d n)
+
+body-fault : (p : Profile) (m : Macros) (at : Place) (name : Name) (r : Result Macro Refusal) (f : Fault)
+    → with_macro_name at name (check_body p table.empty name r) ≡ Err f
+    → with_macro_name at name (check_body p m name r) ≡ Err f
+body-fault p m at name (Err x) f is = is
+body-fault p m at name (Ok d) f is =
+    either-fault (is_gnu p && list_any is_va_opt d.body)
+    (va_opt_refusal d (separated d)) (plain_refusal p table.empty name d) (plain_refusal p m name d)
+    at name d f is (plain-fault p m at name d f)
 
 named-ok : (ident reserved : Bool) (x y z : Result Named Fault) (e g : Fault) (n : Named)
     → (if ident then (if reserved then Err e else x) else Err g) ≡ Ok n

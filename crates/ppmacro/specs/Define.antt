@@ -16,6 +16,8 @@ use Rattle.ppmacro.specs.Names.{Name, Macros}
 use Rattle.ppmacro.specs.HashOperators.{is_hash, is_paste}
 use Rattle.ppmacro.specs.ParsedParameters.{ParsedParameters}
 use Rattle.ppmacro.specs.Chains.{parameter_names, parameter_of, is_function_like}
+use Rattle.ppmacro.specs.VaOpt.{is_va_opt, Separated, separated}
+use Rattle.ppmacro.specs.VaOptChains.{with_va_opt}
 use Rattle.ppmacro.specs.declared.macros.Variadic.{Variadic}
 use Rattle.ppmacro.specs.declared.macros.Variadic.TheVariants.{No, Strict, Lenient}
 use Rattle.ppmacro.specs.declared.defining.parameter_lists.Ending.{Ending}
@@ -89,11 +91,15 @@ variadic_by true NamedEllipsis = Lenient
 abbrev pub has_variable_arguments : List Name → Bool
 has_variable_arguments names = list_any (λ n. bytes_eq n (codes "__VA_ARGS__")) names
 
+-- Whether `__VA_OPT__` is among the names.
+abbrev pub has_va_opt : List Name → Bool
+has_va_opt names = list_any (λ n. bytes_eq n (codes "__VA_OPT__")) names
+
 abbrev pub function_like : Profile → Option ParsedParameters → Result Macro Refusal
 function_like profile None = Err ParameterList
 function_like profile (Some h) =
     if repeats h.names then Err ParameterList else (
-    if has_variable_arguments h.names then Err VariableArguments else
+    if has_variable_arguments h.names || (is_gnu profile && has_va_opt h.names) then Err VariableArguments else
     Ok (record { kind = FunctionLike (all_parameters h.ending h.names) (variadic_by (is_gnu profile) h.ending); body = h.body }))
 
 -- The definition in the tokens after the macro's name.
@@ -179,20 +185,34 @@ is_fixed gnu name =
     || (bytes_eq name (codes "__STDC_VERSION__") && not gnu))))))
 
 -- Whether a name can never be a macro.
-abbrev pub is_barred : Name → Bool
-is_barred name = bytes_eq name (codes "defined") || bytes_eq name (codes "__VA_ARGS__")
+abbrev pub is_barred : (gnu : Bool) → Name → Bool
+is_barred gnu name = bytes_eq name (codes "defined") || (bytes_eq name (codes "__VA_ARGS__") || (bytes_eq name (codes "__VA_OPT__") && gnu))
 
 -- Whether a directive must not define or undefine a name (6.10.8p2, 6.10.3p5).
 abbrev pub is_reserved : Profile → Name → Bool
-is_reserved profile name = is_fixed (is_gnu profile) name || is_barred name
+is_reserved profile name = is_fixed (is_gnu profile) name || is_barred (is_gnu profile) name
 
--- Why a definition is invalid, if it is. In GNU C a name may be redefined with any definition.
-abbrev pub refusal_of : Profile → Macros → Name → Macro → Option Refusal
-refusal_of profile macros name d =
+-- Why a definition without `__VA_OPT__` is invalid, if it is. In GNU C a name may be redefined with any definition.
+abbrev pub plain_refusal : Profile → Macros → Name → Macro → Option Refusal
+plain_refusal profile macros name d =
     if misplaces_variable_arguments d.kind d.body then Some VariableArguments else (
     if misplaces_paste true d.body then Some Pasting else (
     if is_function_like d.kind && misplaces_hash d.kind d.body then Some Stringizing else (
     if not (is_gnu profile) && is_conflicting (table.get macros name) d then Some Redefinition else None)))
+
+-- Why a definition with `__VA_OPT__` is invalid, if it is (C23, 6.10.5.1). `##` mustn't be first or last in a content either. `#` may be before `__VA_OPT__`, as before a
+-- parameter.
+abbrev pub va_opt_refusal : Macro → Option Separated → Option Refusal
+va_opt_refusal d None = Some VariableArguments
+va_opt_refusal d (Some s) =
+    if misplaces_variable_arguments d.kind d.body then Some VariableArguments else (
+    if misplaces_paste true d.body || list_any (misplaces_paste true) s.contents then Some Pasting else (
+    if misplaces_hash (with_va_opt d.kind) d.body then Some Stringizing else None))
+
+-- Why a definition is invalid, if it is. `__VA_OPT__` is a name like any other except in GNU C.
+abbrev pub refusal_of : Profile → Macros → Name → Macro → Option Refusal
+refusal_of profile macros name d =
+    if is_gnu profile && list_any is_va_opt d.body then va_opt_refusal d (separated d) else plain_refusal profile macros name d
 
 abbrev pub unless_refused : Option Refusal → Macro → Result Macro Refusal
 unless_refused None d = Ok d

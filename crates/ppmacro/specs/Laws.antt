@@ -1,4 +1,4 @@
--- The syntax of parameter lists and replacement lists, by induction. Which chains have a variable argument after a comma.
+-- The syntax of parameter lists, replacement lists and `__VA_OPT__`, by induction. Which chains have a variable argument after a comma.
 use Rattle.std.specs.Prelude.{◌≡◌, ℕ, Bool, true, false, not, ◌&&◌, List, [], ◌∷◌, ◌++◌, Some, None, codes}
 use Rattle.std.specs.List.{list_any}
 use Rattle.pptext.specs.declared.tokens.Token.{Token}
@@ -10,6 +10,7 @@ use Rattle.ppmacro.specs.HashOperators.{is_paste}
 use Rattle.ppmacro.specs.ParsedParameters.{ParsedParameters}
 use Rattle.ppmacro.specs.Chains.{parameter_of, is_function_like, is_operator_hash, lenient_parameter, with_variadic}
 use Rattle.ppmacro.specs.Define.{misplaces_paste, misplaces_hash}
+use Rattle.ppmacro.specs.VaOpt.{Separated, is_va_opt}
 use Rattle.ppmacro.specs.declared.defining.parameter_lists.Ending.{Ending}
 use Rattle.ppmacro.specs.declared.defining.parameter_lists.Ending.TheVariants.{NoEllipsis, Ellipsis, NamedEllipsis}
 use Rattle.ppmacro.specs.declared.macros.MacroKind.{MacroKind}
@@ -99,6 +100,39 @@ pub data AreChains (kind : MacroKind) : List Token → List Chain → Type 0 whe
 -- `##` and `#` are in valid positions (6.10.3.2p1, 6.10.3.3p1, p3).
 abbrev pub has_valid_operators : Macro → Bool
 has_valid_operators d = not (misplaces_paste true d.body) && not (is_function_like d.kind && misplaces_hash d.kind d.body)
+
+-- ---- `__VA_OPT__` in a replacement list (C23, 6.10.5.1)
+
+-- What may be between the parentheses after `__VA_OPT__`: tokens that aren't `__VA_OPT__`, with matching parentheses.
+pub data IsContent : List Token → Type 0 where
+  empty : IsContent []
+  other : {t : Token} {ts : List Token}
+      → is_va_opt t ≡ false
+      → is_punct (codes "(") t ≡ false
+      → is_punct (codes ")") t ≡ false
+      → IsContent ts
+      → IsContent (t ∷ ts)
+  parenthesized : (opening : Token) (inner : List Token) (closing : Token) (ts : List Token)
+      → is_punct (codes "(") opening ≡ true
+      → IsContent inner
+      → is_punct (codes ")") closing ≡ true
+      → IsContent ts
+      → IsContent (opening ∷ (inner ++ closing ∷ ts))
+
+-- Tokens in which each `__VA_OPT__` has a content: what is left without the contents and their parentheses, and the contents.
+pub data WithContents : List Token → Separated → Type 0 where
+  no_tokens : WithContents [] (record { outside = []; contents = [] })
+  ordinary : {t : Token} {ts : List Token} {s : Separated}
+      → is_va_opt t ≡ false
+      → WithContents ts s
+      → WithContents (t ∷ ts) (record { outside = t ∷ s.outside; contents = s.contents })
+  with_content : (name opening : Token) (content : List Token) (closing : Token) (ts : List Token) {s : Separated}
+      → is_va_opt name ≡ true
+      → is_punct (codes "(") opening ≡ true
+      → IsContent content
+      → is_punct (codes ")") closing ≡ true
+      → WithContents ts s
+      → WithContents (name ∷ (opening ∷ (content ++ closing ∷ ts))) (record { outside = name ∷ s.outside; contents = content ∷ s.contents })
 
 -- ---- variable arguments that may be absent (gcc's manual, "Variadic Macros")
 

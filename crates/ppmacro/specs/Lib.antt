@@ -7,6 +7,8 @@ pub mod PairCache
 pub mod HideSetPool
 pub mod HashOperators
 pub mod Chains
+pub mod VaOpt
+pub mod VaOptChains
 pub mod Hiding
 pub mod HideSets
 pub mod Define

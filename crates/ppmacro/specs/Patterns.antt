@@ -1,11 +1,12 @@
 -- Replacement lists in the form that substitution reads.
-use Rattle.std.specs.Prelude.{List, map}
+use Rattle.std.specs.Prelude.{map}
 use Rattle.ppmacro.specs.Entries.{entry_chain}
-use Rattle.ppmacro.specs.declared.macros.Chain.{Chain}
+use Rattle.ppmacro.specs.VaOptChains.{ListChains, Ordinary, WithVaOpt}
 use Rattle.ppmacro.specs.declared.patterns.Pattern.{Pattern}
-use Rattle.ppmacro.specs.declared.patterns.Pattern.TheVariants.{Plain, Pasted}
+use Rattle.ppmacro.specs.declared.patterns.Pattern.TheVariants.{Plain, Pasted, VaOpt}
 
 -- The chains of a replacement list.
-abbrev pub pattern_chains : Pattern → List Chain
-pattern_chains (Plain entries) = map entry_chain entries
-pattern_chains (Pasted chains) = chains
+abbrev pub pattern_chains : Pattern → ListChains
+pattern_chains (Plain entries) = Ordinary (map entry_chain entries)
+pattern_chains (Pasted chains) = Ordinary chains
+pattern_chains (VaOpt chains) = WithVaOpt chains

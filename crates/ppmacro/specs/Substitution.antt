@@ -9,7 +9,7 @@ use Rattle.pptext.specs.declared.tokens.Kind.TheVariants.{CharConst, Str as Stri
 use Rattle.pptext.specs.Tokens.{fault}
 use Rattle.ppmacro.specs.Names.{HideSet}
 use Rattle.ppmacro.specs.Hiding.{Hiding}
-use Rattle.ppmacro.specs.Chains.{chains_of}
+use Rattle.ppmacro.specs.VaOptChains.{VaOptChains, ListChains, Ordinary, WithVaOpt, list_chains}
 use Rattle.ppmacro.specs.Lexing.{kind_of}
 use Rattle.ppmacro.specs.declared.macros.Macro.{Macro}
 use Rattle.ppmacro.specs.declared.macros.Chain.{Chain}
@@ -180,6 +180,40 @@ hsadd added used t = record { token = record t.token { used = used }; hide = set
 abbrev pub chains_replacement : List Chain → Arguments → HideSet → Place → Bool → Result Replacement Fault
 chains_replacement cs args added used space = after_ok (chains_tokens args used space true cs) (λ m. Ok (record m { tokens = map (hsadd added used) m.tokens }))
 
--- The replacement by the chains of a macro.
+-- ---- `__VA_OPT__` (C23, 6.10.5.2)
+
+abbrev pub has_tokens : {X : Type 0} → List X → Bool
+has_tokens [] = false
+has_tokens (t ∷ ts) = true
+
+-- Whether the variable argument has tokens after its expansion.
+abbrev pub is_filled : VaOptChains → Arguments → Bool
+is_filled c args = has_tokens (expanded_at args.expanded c.variadic)
+
+-- The tokens of the contents, or the first fault.
+abbrev pub contents_tokens : Arguments → Place → List (List Chain) → Result (List (List Hiding)) Fault
+contents_tokens args used [] = Ok []
+contents_tokens args used (c ∷ cs) = after_ok (chains_tokens args used false true c) (λ m. after_ok (contents_tokens args used cs) (λ rest. Ok (m.tokens ∷ rest)))
+
+-- The arguments, the placemarker of `__VA_OPT__`, and the contents.
+abbrev pub with_contents : Arguments → List (List Hiding) → Arguments
+with_contents args lists = record { given = args.given ++ [] ∷ lists; expanded = args.expanded ++ None ∷ map Some lists }
+
+-- The replacement if the variable argument has tokens. The faults of contents come first, as those of arguments do.
+abbrev pub filled_replacement : VaOptChains → Arguments → HideSet → Place → Bool → Result Replacement Fault
+filled_replacement c args added used space =
+    after_ok (contents_tokens args used c.contents) (λ lists. chains_replacement c.if_filled (with_contents args lists) added used space)
+
+-- The replacement by chains with `__VA_OPT__`.
+abbrev pub va_opt_replacement : VaOptChains → Arguments → HideSet → Place → Bool → Result Replacement Fault
+va_opt_replacement c args added used space =
+    if is_filled c args then filled_replacement c args added used space else chains_replacement c.if_empty args added used space
+
+-- ---- the replacement by the chains of a macro
+
+abbrev pub replacement_by : ListChains → Arguments → HideSet → Place → Bool → Result Replacement Fault
+replacement_by (Ordinary cs) args added used space = chains_replacement cs args added used space
+replacement_by (WithVaOpt c) args added used space = va_opt_replacement c args added used space
+
 abbrev pub macro_replacement : Macro → Arguments → HideSet → Place → Bool → Result Replacement Fault
-macro_replacement d args added used space = chains_replacement (chains_of d) args added used space
+macro_replacement d args added used space = replacement_by (list_chains d) args added used space

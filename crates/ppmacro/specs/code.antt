@@ -7,6 +7,7 @@ pub mod NameFilter
 pub mod ChainParts
 pub mod KeptOperands
 pub mod KeptChains
+pub mod VaOptLists
 pub mod Hashed
 pub mod Defining
 pub mod PreparedDefinitions

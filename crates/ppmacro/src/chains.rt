@@ -14,6 +14,7 @@ ghost use Rattle.ppmacro.specs.Chains.{parameter_names, parameter_named, paramet
 ghost use Rattle.ppmacro.specs.code.ChainParts.{with_first_part, append_parts};
 ghost use Rattle.ppmacro.specs.code.KeptOperands.{operand_at, operands_at};
 ghost use Rattle.ppmacro.specs.code.KeptChains.{chains_at, part_at};
+ghost use Rattle.ppmacro.specs.code.VaOptLists.{tokens_at};
 ghost use Rattle.pptext.specs.declared.tokens.Token.{Token};
 
 use crate::hash_operators::{is_hash, is_paste};
@@ -281,6 +282,49 @@ fn chains_in(
     Ok(chains)
 }
 
+/// Returns the parts of the tokens with these indices in a replacement list. The parameters are indexed with `_hashing`, which only the contract
+/// reads.
+pub(crate) fn parts_of(
+    alloc: Global,
+    kind: &Parameters,
+    _hashing: Hashing,
+    body: &[Token],
+    indices: &[usize],
+) -> Result<Vec<ChainPart>, Memory>
+    requires { kind.now.hashing ≡ _hashing }
+    ensures { IfOk result (λ v. map (part_at body.now) v.items ≡ parts_after kind.now.kind None (tokens_at body.now indices.now)) }
+{
+    let mut parts = Vec::with_capacity(alloc, indices.len())?;
+    let mut hash = None;
+    for &index in indices {
+        let Some(token) = body.get(index) else {
+            continue;
+        };
+        let Some(part) = next_part(kind, hash, index, token) else {
+            hash = Some(HashSign {
+                space: token.space,
+                at: token.at,
+            });
+            continue;
+        };
+        hash = None;
+        parts.push(part)?;
+    }
+    Ok(parts)
+}
+
+/// Returns the chains of these parts, before `end_in_variadic`.
+pub(crate) fn group_parts(alloc: Global, parts: Vec<ChainPart>) -> Result<Vec<KeptChain>, Memory>
+    ensures { IfOk result (λ v. (body : List Token) → chains_at body v.items ≡ group_parts (map (part_at body) parts.items)) }
+{
+    let mut chains = Vec::with_capacity(alloc, parts.len())?;
+    let mut joined = false;
+    for part in parts {
+        joined = put_part(&mut chains, joined, part)?;
+    }
+    Ok(chains)
+}
+
 /// Returns the index of the parameter whose argument may be absent.
 fn lenient_parameter(kind: &MacroKind) -> Option<usize>
     ensures { result ≡ lenient_parameter kind.now }
@@ -310,7 +354,7 @@ fn end_chain_in_variadic(body: &[Token], operands: &mut Vec<KeptOperand>, index:
 }
 
 /// Turns the last operand of each chain into `VariadicAfterComma`, if it is the parameter that may be absent and follows a comma.
-fn end_in_variadic(kind: &MacroKind, body: &[Token], chains: &mut [KeptChain])
+pub(crate) fn end_in_variadic(kind: &MacroKind, body: &[Token], chains: &mut [KeptChain])
     ensures { chains_at body.now chains.new ≡ map (with_variadic (lenient_parameter kind.now)) (chains_at body.now chains.old) }
 {
     let Some(index) = lenient_parameter(kind) else {

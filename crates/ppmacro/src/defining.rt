@@ -13,9 +13,10 @@ ghost use Rattle.std.specs.FinMap as finite_map;
 ghost use Rattle.ppmacro.specs.declared.macros.MacroKind.TheVariants.{ObjectLike};
 ghost use Rattle.pptext.specs.Tokens.{fault};
 ghost use Rattle.pptext.specs.Errors.{Raises, Returns, UnlessOutOfMemory};
-ghost use Rattle.ppmacro.specs.Define.{misplaces_hash, read_parameter_list, read_definition, function_like, refusal_of, check_body, number_of, with_macro_name, check_define, insert_definition, after_define, undefined, after_undef, Leaves};
+ghost use Rattle.ppmacro.specs.Define.{misplaces_hash, read_parameter_list, read_definition, function_like, plain_refusal, va_opt_refusal, refusal_of, check_body, number_of, with_macro_name, check_define, insert_definition, after_define, undefined, after_undef, Leaves};
 ghost use Rattle.ppmacro.specs.code.Defining.{named_by, unless_conflicting};
 ghost use Rattle.ppmacro.specs.Chains.{is_function_like};
+ghost use Rattle.ppmacro.specs.VaOpt.{separated};
 ghost use Rattle.ppmacro.specs.Names.{Name};
 
 mod body_checks;
@@ -23,9 +24,11 @@ mod parameter_lists;
 mod redefinition;
 mod reserved_names;
 
-use self::body_checks::{misplaces_hash, misplaces_paste, misplaces_variable_arguments};
+use self::body_checks::{
+    misplaces_hash, misplaces_paste, misplaces_paste_inside, misplaces_variable_arguments,
+};
 use self::parameter_lists::{
-    all_parameters, has_variable_arguments, read_parameter_list, repeats, variadic_by,
+    all_parameters, has_barred_name, read_parameter_list, repeats, variadic_by,
 };
 use self::redefinition::is_conflicting;
 use self::reserved_names::is_reserved;
@@ -35,6 +38,8 @@ use crate::name_key::NameKey;
 use crate::prepared_macro::PreparedMacro;
 use crate::replacement_list::ReplacementList;
 use crate::tables::Table;
+use crate::va_opt::{has_va_opt, separated};
+use crate::va_opt_chains::with_va_opt;
 use pptext::{Error, Hashing, Memory, Place, Profile, Token};
 use std::alloc::Global;
 use std::marker::Model;
@@ -86,7 +91,7 @@ fn function_like<'a>(
     if repeats(alloc, parsed.names.as_slice(), hashing)? {
         return Err(defined.refuse(alloc, 11));
     }
-    if has_variable_arguments(parsed.names.as_slice()) {
+    if has_barred_name(profile.is_gnu(), parsed.names.as_slice()) {
         return Err(defined.refuse(alloc, 15));
     }
     Ok(Macro {
@@ -145,14 +150,14 @@ fn misplaces_operator_hash(
     misplaces_hash(alloc, kind, body, hashing)
 }
 
-/// Returns the number of the fault of a definition that no other definition of its name causes, if it has one.
-fn refusal_of(
+/// Returns the number of the fault of a definition without `__VA_OPT__` that no other definition of its name causes, if it has one.
+fn plain_refusal(
     alloc: Global,
     kind: &MacroKind,
     body: &[Token],
     hashing: Hashing,
 ) -> Result<Option<u8>, Memory>
-    ensures { IfOk result (λ r. (profile : Profile) (name : Name) → r ≡ option_map number_of (refusal_of profile finite_map.empty name (record { kind = kind.now; body = body.now }))) }
+    ensures { IfOk result (λ r. (profile : Profile) (name : Name) → r ≡ option_map number_of (plain_refusal profile finite_map.empty name (record { kind = kind.now; body = body.now }))) }
 {
     if misplaces_variable_arguments(kind, body) {
         return Ok(Some(15));
@@ -164,6 +169,47 @@ fn refusal_of(
         return Ok(Some(14));
     }
     Ok(None)
+}
+
+/// Returns the number of the fault of a definition with `__VA_OPT__`, if it has one.
+fn va_opt_refusal(
+    alloc: Global,
+    kind: &MacroKind,
+    body: &[Token],
+    hashing: Hashing,
+) -> Result<Option<u8>, Memory>
+    ensures { IfOk result (λ r. r ≡ option_map number_of (va_opt_refusal (record { kind = kind.now; body = body.now }) (separated (record { kind = kind.now; body = body.now })))) }
+{
+    let Some(list) = separated(alloc, kind, body)? else {
+        return Ok(Some(15));
+    };
+    if misplaces_variable_arguments(kind, body) {
+        return Ok(Some(15));
+    }
+    if misplaces_paste(body) || misplaces_paste_inside(body, list.contents.as_slice()) {
+        return Ok(Some(13));
+    }
+    let extended = with_va_opt(alloc, kind)?;
+    if misplaces_hash(alloc, &extended, body, hashing)? {
+        return Ok(Some(14));
+    }
+    Ok(None)
+}
+
+/// Returns the number of the fault of a definition that no other definition of its name causes, if it has one.
+fn refusal_of(
+    alloc: Global,
+    profile: Profile,
+    kind: &MacroKind,
+    body: &[Token],
+    hashing: Hashing,
+) -> Result<Option<u8>, Memory>
+    ensures { IfOk result (λ r. (name : Name) → r ≡ option_map number_of (refusal_of profile finite_map.empty name (record { kind = kind.now; body = body.now }))) }
+{
+    if profile.is_gnu() && has_va_opt(body) {
+        return va_opt_refusal(alloc, kind, body, hashing);
+    }
+    plain_refusal(alloc, kind, body, hashing)
 }
 
 /// Returns the definition of a permitted name from the tokens after the name, or its fault.
@@ -179,7 +225,7 @@ fn read_body<'a>(
     let definition = read_definition(alloc, profile, defined, line, hashing)?;
     let kind = &definition.kind;
     let body = definition.body.as_slice();
-    match refusal_of(alloc, kind, body, hashing)? {
+    match refusal_of(alloc, profile, kind, body, hashing)? {
         Some(number) => Err(defined.refuse(alloc, number)),
         None => Ok(Named {
             name: NameKey::of(defined.name),

@@ -2,15 +2,19 @@
 //!
 //! What substitution needs of a replacement list, beside its tokens, is found when the definition is read: which parameter each
 //! token names, or, in a list with `#` or `##`, its chains, and which arguments are expanded. So an invocation looks no name up.
-ghost use Rattle.std.specs.Prelude.{◌≡◌, IfOk, OnOk, ◌++◌, map, false, true};
+ghost use Rattle.std.specs.Prelude.{◌≡◌, IfOk, OnOk, ◌++◌, Some, None, map, false, true};
 ghost use Rattle.ppmacro.specs.Chains.{is_function_like, parameter_of};
+ghost use Rattle.ppmacro.specs.VaOpt.{separated};
+ghost use Rattle.ppmacro.specs.code.VaOptLists.{separated_at};
 ghost use Rattle.ppmacro.specs.code.PreparedDefinitions.{IsPrepared};
 
-use crate::chains::{Parameters, chains_of, parameter_names, parameter_of};
+use crate::chains::{Parameters, chains_of, is_function_like, parameter_names, parameter_of};
 use crate::kept_chains::KeptChain;
 use crate::macros::{MacroKind, has_paste, is_object_like};
 use crate::patterns::has_operator;
 use crate::pre_expansion::{UsedParameters, lone_parameters};
+use crate::va_opt::{SeparatedList, separated};
+use crate::va_opt_chains::VaOptForm;
 use pptext::{Hashing, Memory, Token};
 use std::alloc::Global;
 
@@ -22,6 +26,8 @@ pub enum ListForm {
     Plain(Vec<Option<usize>>),
     /// The chains.
     Pasted(Vec<KeptChain>),
+    /// The chains of a list with `__VA_OPT__`.
+    VaOpt(VaOptForm),
 }
 
 /// What a definition says apart from the tokens of its replacement list.
@@ -95,6 +101,28 @@ impl Definition {
         })
     }
 
+    /// Returns the definition of a macro whose replacement list has `__VA_OPT__`. Many parameters are indexed with hash function `hashing`.
+    fn with_va_opt(
+        alloc: Global,
+        kind: MacroKind,
+        body: &[Token],
+        list: &SeparatedList,
+        hashing: Hashing,
+    ) -> Result<Definition, Memory>
+        requires { separated (record { kind = kind; body = body.now }) ≡ Some (separated_at body.now list.now) }
+        ensures kind { IfOk result (λ d. d.kind ≡ kind) }
+        ensures prepared { IfOk result (λ d. IsPrepared d body.now) }
+    {
+        let form = VaOptForm::new(alloc, &kind, body, list, hashing)?;
+        let used = form.used_parameters(alloc, body)?;
+        Ok(Definition {
+            kind,
+            form: ListForm::VaOpt(form),
+            lone: false,
+            used,
+        })
+    }
+
     /// Returns the definition of a function-like macro with this replacement list. Many parameters are indexed with hash function
     /// `hashing`.
     fn with_parameters(
@@ -103,7 +131,8 @@ impl Definition {
         body: &[Token],
         hashing: Hashing,
     ) -> Result<Definition, Memory>
-        requires { is_function_like kind ≡ true }
+        requires function_like { is_function_like kind ≡ true }
+        requires separated { separated (record { kind = kind; body = body.now }) ≡ None }
         ensures kind { IfOk result (λ d. d.kind ≡ kind) }
         ensures prepared { IfOk result (λ d. IsPrepared d body.now) }
     {
@@ -140,11 +169,12 @@ impl Definition {
         ensures kind { IfOk result (λ d. d.kind ≡ kind) }
         ensures prepared { IfOk result (λ d. IsPrepared d body.now) }
     {
-        match kind {
-            MacroKind::FunctionLike { .. } => {
-                Definition::with_parameters(alloc, kind, body, hashing)
-            }
-            _ => Definition::without_parameters(alloc, kind, body, hashing),
+        if !is_function_like(&kind) {
+            return Definition::without_parameters(alloc, kind, body, hashing);
+        }
+        match separated(alloc, &kind, body)? {
+            Some(list) => Definition::with_va_opt(alloc, kind, body, &list, hashing),
+            None => Definition::with_parameters(alloc, kind, body, hashing),
         }
     }
 }

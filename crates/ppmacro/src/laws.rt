@@ -14,7 +14,9 @@ ghost use Rattle.ppmacro.specs.declared.macros.Macro.{Macro};
 ghost use Rattle.ppmacro.specs.declared.macros.Chain.{Chain};
 ghost use Rattle.ppmacro.specs.Substitution.{Arguments, Replacement, chain_tokens, chains_replacement};
 ghost use Rattle.ppmacro.specs.Origins.{ComesFrom, LeavesPending, IsReplacementToken};
-ghost use Rattle.ppmacro.specs.Laws.{IsParameterList, AreChains, has_valid_operators, holds_variadic};
+ghost use Rattle.ppmacro.specs.VaOpt.{Separated, separate};
+ghost use Rattle.ppmacro.specs.declared.va_opt.Position.TheVariants.{Outside};
+ghost use Rattle.ppmacro.specs.Laws.{IsParameterList, AreChains, WithContents, has_valid_operators, holds_variadic};
 
 /// Proves that a parameter list is read exactly if it has the syntax of 6.10.3: names with commas between them, then `...` or
 /// not, then `)`. In GNU C a name and `...` without a comma between them is permitted, too.
@@ -29,6 +31,13 @@ pub fn lays_out_chains()
     ensures laid_out { (definition : Macro) → has_valid_operators definition ≡ true → AreChains definition.kind definition.body (chains_of definition) }
     ensures only { (definition : Macro) (chains : List Chain) → AreChains definition.kind definition.body chains → chains_of definition ≡ chains }
     ensures exactly { (definition : Macro) → (has_valid_operators definition ≡ true) ↔ ((chains : List Chain) × AreChains definition.kind definition.body chains) }
+{}
+
+/// Proves that the contents of `__VA_OPT__` are taken out of a replacement list exactly if it has the syntax of C23, 6.10.5.1: after
+/// each `__VA_OPT__` come `(`, a content and `)`. The parentheses of a content match, and no `__VA_OPT__` is in it. Each name is left
+/// without its content and the two parentheses, and the contents are in order.
+pub fn reads_va_opt()
+    ensures { (tokens : List Token) (s : Separated) → (separate Outside tokens ≡ Some s) ↔ WithContents tokens s }
 {}
 
 /// Proves that no variable argument may be absent without the rules of GNU C. No chain of a macro without such an argument has

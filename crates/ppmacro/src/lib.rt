@@ -24,13 +24,17 @@ mod replacement_list;
 mod substituting;
 mod tables;
 mod token_hide_set;
+mod va_opt;
+mod va_opt_chains;
 
 pub use define_lines::{DefineLine, define_line};
 pub use defining::{define, undef};
 pub use hidden_token::{ArgumentExpansion, Hidden};
 pub use hide_sets::{HideSets, Set};
 pub use invocation::{Arguments, MacroName};
-pub use laws::{lays_out_chains, lenient_in_gnu_alone, reads_parameter_lists, traces_origins};
+pub use laws::{
+    lays_out_chains, lenient_in_gnu_alone, reads_parameter_lists, reads_va_opt, traces_origins,
+};
 pub use macros::{Chain, MacroKind, Names, Operand, Operands, PredefinedMacro, Variadic};
 pub use patterns::{Entry, PastedList, Pattern, PlainList};
 pub use prepared_macro::PreparedMacro;
@@ -41,3 +45,4 @@ pub use substituting::{
     argument_of, decides_each_kind, paste, push_escaped, stringize, substitute_pattern,
 };
 pub use tables::Table;
+pub use va_opt_chains::VaOptList;

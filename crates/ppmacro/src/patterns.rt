@@ -11,6 +11,7 @@ use crate::hash_operators::{is_hash, is_paste};
 use crate::kept_chains::KeptChain;
 use crate::macros::{Chain, Operands};
 use crate::replacement_list::BodyToken;
+use crate::va_opt_chains::VaOptList;
 use pptext::{Kind, Token};
 use std::marker::Model;
 
@@ -130,8 +131,10 @@ impl<'p, 'a> PastedList<'p, 'a> {
 pub enum Pattern<'p, 'a> {
     /// A list without `#` and `##`.
     Plain(PlainList<'p, 'a>),
-    /// Another list.
+    /// Another list without `__VA_OPT__`.
     Pasted(PastedList<'p, 'a>),
+    /// A list with `__VA_OPT__`.
+    VaOpt(VaOptList<'p, 'a>),
 }
 
 /// Returns whether a token is `#` or `##`.

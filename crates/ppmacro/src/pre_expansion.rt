@@ -21,7 +21,7 @@ pub struct UsedParameters {
 }
 
 /// Returns the parameter that a chain consists of, if it consists of one alone.
-fn lone_parameter(body: &[Token], operands: &[KeptOperand]) -> Option<usize>
+pub(crate) fn lone_parameter(body: &[Token], operands: &[KeptOperand]) -> Option<usize>
     ensures { result ≡ lone_parameter (operands_at body.now operands.now) }
 {
     let [operand] = operands else {
@@ -145,6 +145,25 @@ impl UsedParameters {
         Ok(UsedParameters {
             by_parameter,
             by_use,
+        })
+    }
+
+    /// Returns the parameters, of this number, that are used, in the order of their first uses in every profile.
+    pub(crate) fn in_order(
+        alloc: Global,
+        parameters: usize,
+        uses: &[Option<usize>],
+    ) -> Result<UsedParameters, Memory>
+        requires { (k : ℕ) → k < length uses.now → IfSome (get_or uses.now k None) (λ i. i < parameters) }
+        ensures by_parameter { IfOk result (λ p. p.by_parameter.items ≡ fold with_use [] uses.now) }
+        ensures by_use { IfOk result (λ p. uses_of p ≡ fold with_use [] uses.now) }
+    {
+        let mut marks = vec![in alloc; false; parameters]?;
+        let mut by_use = Vec::new(alloc);
+        push_uses(&mut marks, &mut by_use, uses)?;
+        Ok(UsedParameters {
+            by_parameter: by_use,
+            by_use: None,
         })
     }
 

@@ -7,6 +7,7 @@ ghost use Rattle.std.specs.Option.{option_copied};
 ghost use Rattle.ppmacro.specs.Chains.{chains_of, parameter_names};
 ghost use Rattle.ppmacro.specs.PasteFree.{lone_chain, lone_tokens};
 ghost use Rattle.ppmacro.specs.Patterns.{pattern_chains};
+ghost use Rattle.ppmacro.specs.VaOptChains.{list_chains};
 ghost use Rattle.ppmacro.specs.PreExpansion.{expansion_order};
 ghost use Rattle.ppmacro.specs.Predefined.{predefined_as, counter};
 ghost use Rattle.ppmacro.specs.code.PreparedDefinitions.{IsPrepared};
@@ -15,6 +16,7 @@ use crate::chains::parameter_names;
 use crate::definition::{Definition, ListForm};
 use crate::macros::{MacroKind, PredefinedMacro};
 use crate::patterns::{PastedList, Pattern, PlainList};
+use crate::va_opt_chains::VaOptList;
 use pptext::{Hashing, Memory, Profile, Token};
 use std::alloc::Global;
 use std::marker::Model;
@@ -212,13 +214,14 @@ impl<'a> PreparedMacro<'a> {
 
     /// Returns the replacement list for `substitute_pattern`.
     pub fn pattern(&self) -> Pattern<'_, 'a>
-        ensures { pattern_chains result ≡ chains_of self.now }
+        ensures { pattern_chains result ≡ list_chains self.now }
     {
         match &self.definition.get().form {
             ListForm::Plain(uses) => Pattern::Plain(PlainList::new(uses.as_slice(), self.body)),
             ListForm::Pasted(chains) => {
                 Pattern::Pasted(PastedList::new(chains.as_slice(), self.body))
             }
+            ListForm::VaOpt(form) => Pattern::VaOpt(VaOptList::new(form, self.body)),
         }
     }
 }

@@ -15,6 +15,7 @@ ghost use Rattle.pptext.specs.Errors.{Returns};
 ghost use Rattle.ppmacro.specs.Substituting.{lists_of, ArgumentsKnown, arguments_in, as_replacement};
 ghost use Rattle.ppmacro.specs.code.Replacing.{pushed};
 
+mod contents;
 mod entries;
 mod hsadd;
 mod joining;
@@ -240,7 +241,7 @@ fn space_before(pending: bool, first: bool, own: bool) -> bool
 }
 
 /// Returns the tokens of all chains, and the leading-space flag that is pending afterwards.
-fn chains_tokens<'x, 'a: 'x>(
+pub(crate) fn chains_tokens<'x, 'a: 'x>(
     alloc: Global,
     sets: &mut HideSets,
     arguments: Arguments<'_, 'x>,

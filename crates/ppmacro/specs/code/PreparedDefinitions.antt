@@ -8,19 +8,20 @@ use Rattle.pptext.specs.declared.tokens.Token.{Token}
 use Rattle.pptext.specs.Lines.{LogicalLine}
 use Rattle.pptext.specs.IndexedLines.{line_at}
 use Rattle.pptext.specs.declared.sources.Profile.{Profile}
+use Rattle.pptext.specs.declared.sources.Profile.TheVariants.{Later, Gnu}
 use Rattle.ppmacro.specs.HashOperators.{is_paste}
-use Rattle.ppmacro.specs.Chains.{parameter_names, chains_of}
+use Rattle.ppmacro.specs.VaOptChains.{ListChains, Ordinary, WithVaOpt, list_chains}
 use Rattle.ppmacro.specs.PasteFree.{is_object_like}
 use Rattle.ppmacro.specs.Entries.{entries_at, entry_chain}
-use Rattle.ppmacro.specs.PreExpansion.{used_parameters, first_uses}
+use Rattle.ppmacro.specs.PreExpansion.{expansion_order}
 use Rattle.ppmacro.specs.Define.{check_define}
 use Rattle.ppmacro.specs.DefineLines.{DefineLine, IsDefineLine}
-use Rattle.ppmacro.specs.declared.macros.Chain.{Chain}
 use Rattle.ppmacro.specs.declared.pre_expansion.UsedParameters.{UsedParameters}
 use Rattle.ppmacro.specs.declared.definition.Definition.{Definition}
 use Rattle.ppmacro.specs.declared.definition.ListForm.{ListForm}
-use Rattle.ppmacro.specs.declared.definition.ListForm.TheVariants.{Plain, Pasted}
+use Rattle.ppmacro.specs.declared.definition.ListForm.TheVariants.{Plain, Pasted, VaOpt}
 use Rattle.ppmacro.specs.code.KeptChains.{chains_at}
+use Rattle.ppmacro.specs.code.VaOptLists.{form_va_opt_chains}
 use Rattle.ppmacro.specs.declared.define_lines.Defined.{Defined}
 use Rattle.ppmacro.specs.declared.define_lines.ReadDefinition.{ReadDefinition}
 
@@ -42,16 +43,17 @@ abbrev pub uses_of : UsedParameters → List ℕ
 uses_of u = order_of_uses u.by_parameter.items u.by_use
 
 -- The chains of a replacement list in the form of a definition.
-abbrev pub form_chains : List Token → ListForm → List Chain
-form_chains body (Plain v) = map entry_chain (entries_at v.items body)
-form_chains body (Pasted v) = chains_at body v.items
+abbrev pub form_chains : List Token → ListForm → ListChains
+form_chains body (Plain v) = Ordinary (map entry_chain (entries_at v.items body))
+form_chains body (Pasted v) = Ordinary (chains_at body v.items)
+form_chains body (VaOpt f) = WithVaOpt (form_va_opt_chains body f)
 
 -- A definition says what expansion needs to know of this replacement list.
 pub record IsPrepared (d : Definition) (body : List Token) : Type 0 where
-  pub chains : form_chains body d.form ≡ chains_of (record { kind = d.kind; body = body })
+  pub chains : form_chains body d.form ≡ list_chains (record { kind = d.kind; body = body })
   pub lone : d.lone ≡ (is_object_like d.kind && not (list_any is_paste body))
-  pub by_parameter : d.used.by_parameter.items ≡ used_parameters (chains_of (record { kind = d.kind; body = body })) (length (parameter_names d.kind))
-  pub by_use : uses_of d.used ≡ first_uses (chains_of (record { kind = d.kind; body = body }))
+  pub by_parameter : d.used.by_parameter.items ≡ expansion_order Later (record { kind = d.kind; body = body })
+  pub by_use : uses_of d.used ≡ expansion_order Gnu (record { kind = d.kind; body = body })
 
 -- What is the definition of a line without a fault, as if its name had no other definition. The replacement list is the end of the line.
 pub record IsDefinedBy (profile : Profile) (at : Place) (line : List Token) (d : Defined) : Type 0 where

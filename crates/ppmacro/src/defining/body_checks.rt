@@ -1,8 +1,9 @@
 //! Constraints on a replacement list (6.10.3p5, 6.10.3.2p1, 6.10.3.3p1, p3).
-ghost use Rattle.std.specs.Prelude.{◌≡◌, IfOk, codes, true};
+ghost use Rattle.std.specs.Prelude.{◌≡◌, IfOk, codes, map, true};
 ghost use Rattle.std.specs.List.{list_any};
 ghost use Rattle.pptext.specs.Tokens.{is_identifier_named};
 ghost use Rattle.ppmacro.specs.Define.{misplaces_variable_arguments, misplaces_paste, begins_with_parameter, misplaces_hash};
+ghost use Rattle.ppmacro.specs.code.VaOptLists.{tokens_at};
 
 use super::parameter_lists::has_variable_arguments;
 use crate::chains::{Parameters, parameter_names, parameter_of};
@@ -39,6 +40,38 @@ pub(crate) fn misplaces_paste(body: &[Token]) -> bool
             return true;
         }
         bare = true;
+    }
+    false
+}
+
+/// Returns whether `##` is the first or the last of the tokens with these indices, or follows another `##`.
+fn misplaces_paste_among(body: &[Token], indices: &[usize]) -> bool
+    ensures { result ≡ misplaces_paste true (tokens_at body.now indices.now) }
+{
+    let mut bare = true;
+    let mut last = false;
+    for &index in indices {
+        let Some(token) = body.get(index) else {
+            continue;
+        };
+        let paste = is_paste(token);
+        if paste && bare {
+            return true;
+        }
+        bare = paste;
+        last = paste;
+    }
+    last
+}
+
+/// Returns whether `##` is misplaced in a content of `__VA_OPT__`.
+pub(crate) fn misplaces_paste_inside(body: &[Token], contents: &[Vec<usize>]) -> bool
+    ensures { result ≡ list_any (misplaces_paste true) (map (λ c. tokens_at body.now c.items) contents.now) }
+{
+    for content in contents {
+        if misplaces_paste_among(body, content.as_slice()) {
+            return true;
+        }
     }
     false
 }

@@ -1,10 +1,10 @@
 //! The parameter list of a function-like macro (6.10.3p10).
-ghost use Rattle.std.specs.Prelude.{◌≡◌, IfOk, IfSome, is_none, false};
+ghost use Rattle.std.specs.Prelude.{◌≡◌, ◌||◌, ◌&&◌, IfOk, IfSome, is_none, false};
 ghost use Rattle.std.specs.HashSet.{hasher_of};
 ghost use Rattle.std.specs.List.{list_any};
 ghost use Rattle.std.specs.Option.{option_map};
 ghost use Rattle.std.specs.Str.{bytes_eq};
-ghost use Rattle.ppmacro.specs.Define.{close_parameters, after_parameter_name, parameters_from, read_parameter_list, repeats, all_parameters, variadic_by, has_variable_arguments};
+ghost use Rattle.ppmacro.specs.Define.{close_parameters, after_parameter_name, parameters_from, read_parameter_list, repeats, all_parameters, variadic_by, has_variable_arguments, has_va_opt};
 ghost use Rattle.ppmacro.specs.code.ChainParts.{with_names};
 
 use crate::macros::{Names, Variadic};
@@ -172,6 +172,20 @@ pub(crate) fn has_variable_arguments(names: &[Spelling]) -> bool
     ensures { result ≡ has_variable_arguments names.now }
 {
     is_among(names, b"__VA_ARGS__")
+}
+
+/// Returns whether `__VA_OPT__` is among the names.
+fn has_va_opt(names: &[Spelling]) -> bool
+    ensures { result ≡ has_va_opt names.now }
+{
+    is_among(names, b"__VA_OPT__")
+}
+
+/// Returns whether a name that can't be a parameter is among the names: `__VA_ARGS__`, or in GNU C `__VA_OPT__`.
+pub(crate) fn has_barred_name(gnu: bool, names: &[Spelling]) -> bool
+    ensures { result ≡ (has_variable_arguments names.now || (gnu && has_va_opt names.now)) }
+{
+    has_variable_arguments(names) || (gnu && has_va_opt(names))
 }
 
 /// Returns all parameters. `__VA_ARGS__` is the last if the list ends in `...` (6.10.3.1p2).

@@ -18,15 +18,17 @@ fn is_fixed(gnu: bool, name: &[u8]) -> bool
 }
 
 /// Returns whether a name can never be a macro (6.10.8p2, 6.10.3p5).
-fn is_barred(name: &[u8]) -> bool
-    ensures { result ≡ is_barred name.now }
+fn is_barred(gnu: bool, name: &[u8]) -> bool
+    ensures { result ≡ is_barred gnu name.now }
 {
-    name == b"defined".as_slice() || name == b"__VA_ARGS__".as_slice()
+    name == b"defined".as_slice()
+        || name == b"__VA_ARGS__".as_slice()
+        || (name == b"__VA_OPT__".as_slice() && gnu)
 }
 
 /// Returns whether a name must not be defined or undefined by a directive (6.10.8p2, 6.10.3p5).
 pub(crate) fn is_reserved(profile: Profile, name: &[u8]) -> bool
     ensures { result ≡ is_reserved profile name.now }
 {
-    is_fixed(profile.is_gnu(), name) || is_barred(name)
+    is_fixed(profile.is_gnu(), name) || is_barred(profile.is_gnu(), name)
 }

@@ -6,7 +6,7 @@ ghost use Rattle.pptext.specs.Errors.{Returns};
 ghost use Rattle.ppmacro.specs.HideSets.{set_at, IsKnown, hidings, AllKnown, KeepsSets};
 ghost use Rattle.ppmacro.specs.Entries.{entry_chain};
 ghost use Rattle.ppmacro.specs.Patterns.{pattern_chains};
-ghost use Rattle.ppmacro.specs.Substitution.{chain_tokens, chains_tokens, chains_replacement};
+ghost use Rattle.ppmacro.specs.Substitution.{chain_tokens, chains_tokens, chains_replacement, replacement_by};
 ghost use Rattle.ppmacro.specs.Substituting.{ArgumentsKnown, arguments_in, as_replacement};
 ghost use Rattle.ppmacro.specs.code.Replacing.{pushed};
 
@@ -14,6 +14,7 @@ use crate::hidden_token::Hidden;
 use crate::hide_sets::HideSets;
 use crate::invocation::{Arguments, MacroName};
 use crate::patterns::{Entry, Pattern, PlainList};
+use crate::substituting::contents::substitute_va_opt;
 use crate::substituting::hsadd::hsadd_names;
 use crate::substituting::operands::expansion;
 use crate::substituting::{push_spaced, push_token, space_before, substitute_chains};
@@ -145,7 +146,7 @@ pub fn substitute_pattern<'x, 'a: 'x>(
     requires arguments { ArgumentsKnown sets.old arguments.given.now arguments.expanded.now }
     requires base { IsKnown sets.old macro_name.now.base }
     ensures is { Returns result (λ m. as_replacement sets.new m.0.items m.1)
-        (chains_replacement (pattern_chains pattern.now) (arguments_in sets.old arguments.entry.given.now arguments.entry.expanded.now)
+        (replacement_by (pattern_chains pattern.now) (arguments_in sets.old arguments.entry.given.now arguments.entry.expanded.now)
         (set.insert (set_at sets.old macro_name.now.base) macro_name.now.name.now) macro_name.now.used macro_name.now.space) }
     ensures known { IfOk result (λ m. AllKnown sets.new m.0.items) }
     ensures keeps { KeepsSets sets.old sets.new }
@@ -156,5 +157,6 @@ pub fn substitute_pattern<'x, 'a: 'x>(
             Ok(tokens_and_pending)
         }
         Pattern::Pasted(chains) => substitute_chains(alloc, chains, arguments, macro_name, sets),
+        Pattern::VaOpt(list) => substitute_va_opt(alloc, list, arguments, macro_name, sets),
     }
 }

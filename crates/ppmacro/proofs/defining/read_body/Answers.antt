@@ -15,7 +15,7 @@ returns-in-Some c =
     let at = c.args.defined.at in
     let name = c.args.defined.name.now.text in
     let d = c.in_ok-definition.definition in
-    let number = ap (λ b. option_map number_of (refusal_of p m name (record { kind = d.kind; body = b }))) (sym c.as_slice-body.ensures) ∙ sym (c.in_ok-number.ensures p name) ∙ c.in-Some.is in
+    let number = ap (λ b. option_map number_of (refusal_of p m name (record { kind = d.kind; body = b }))) (sym c.as_slice-body.ensures) ∙ sym (c.in_ok-number.ensures name) ∙ c.in-Some.is in
     raised c.refuse.result (fault c.in-Some.number at name) (λ r. r ≡ with_macro_name at name (check_body p m name (read_definition p c.args.line.now))) c.refuse.ensures
     (body_refused p m at name (read_definition p c.args.line.now) d c.in_ok-definition.ensures c.in-Some.number number)
 
@@ -26,5 +26,5 @@ returns c =
     let at = c.args.defined.at in
     let name = c.args.defined.name.now.text in
     let d = c.in_ok-definition.definition in
-    let none = ap (λ b. option_map number_of (refusal_of p m name (record { kind = d.kind; body = b }))) (sym c.as_slice-body.ensures) ∙ sym (c.in_ok-number.ensures p name) ∙ c.in-None.is in
+    let none = ap (λ b. option_map number_of (refusal_of p m name (record { kind = d.kind; body = b }))) (sym c.as_slice-body.ensures) ∙ sym (c.in_ok-number.ensures name) ∙ c.in-None.is in
     ap (λ n. Ok (record { name = n; definition = d })) c.of.ensures ∙ body_accepted p m at name (read_definition p c.args.line.now) d c.in_ok-definition.ensures none

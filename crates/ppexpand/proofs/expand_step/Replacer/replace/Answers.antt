@@ -4,7 +4,7 @@ use Rattle.std.specs.FinSet as set
 use Rattle.pptext.proofs.ErrorReturns.{raises}
 use Rattle.ppmacro.specs.HideSets.{set_at, hiding, hidings, AllKnown}
 use Rattle.ppmacro.specs.Patterns.{pattern_chains}
-use Rattle.ppmacro.specs.Substitution.{chains_replacement}
+use Rattle.ppmacro.specs.Substitution.{replacement_by}
 use Rattle.ppmacro.specs.Substituting.{arguments_in}
 use Rattle.ppexpand.proofs.SpaceFlags.{hidings-spaced, known-spaced}
 use Rattle.ppmacro.proofs.PoolGrowthLemmas.{hidings-keeps, known-keeps, known-append}
@@ -16,7 +16,7 @@ returns-in_err-tokens-clause-is c =
     let s = c.args.self.now.sets in
     raises _ _ _ _ _ c.from_residual.ensures.1 c.in_err-tokens.ensures.is (λ f same. ap (λ r. replaced_by r (hidings s c.args.list.now))
     (same
-    ∙ (λ i. chains_replacement (pattern_chains c.args.pattern.now) (arguments_in s c.args.arguments.given.now c.args.arguments.expanded.now)
+    ∙ (λ i. replacement_by (pattern_chains c.args.pattern.now) (arguments_in s c.args.arguments.given.now c.args.arguments.expanded.now)
     (set.insert (set_at s c.args.base) (c.text.ensures i)) (c.used.ensures i) (c.space.ensures i))))
 
 pub returns-clause-is : goal.returns-clause-is
@@ -27,7 +27,7 @@ returns-clause-is c =
     let tokens = c.in_ok-tokens.tokens.items in
     let pending = c.in_ok-tokens.pending in
     let made = c.in_ok-tokens.ensures.is
-    ∙ (λ i. chains_replacement (pattern_chains c.args.pattern.now) (arguments_in s c.args.arguments.given.now c.args.arguments.expanded.now)
+    ∙ (λ i. replacement_by (pattern_chains c.args.pattern.now) (arguments_in s c.args.arguments.given.now c.args.arguments.expanded.now)
     (set.insert (set_at s c.args.base) (c.text.ensures i)) (c.used.ensures i) (c.space.ensures i)) in
     let spaced : hidings t c.space_next.new.self ≡ space_next pending (hidings s list) =
     ap (hidings t) c.space_next.ensures ∙ hidings-spaced t pending list ∙ ap (space_next pending) (hidings-keeps list c.in_ok-tokens.ensures.keeps c.requires.list) in

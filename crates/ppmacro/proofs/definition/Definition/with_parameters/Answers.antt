@@ -4,7 +4,10 @@ use Rattle.ppmacro.specs.HashOperators.{is_paste}
 use Rattle.ppmacro.specs.Chains.{chains_of}
 use Rattle.ppmacro.specs.declared.macros.Macro.{Macro}
 use Rattle.ppmacro.specs.Entries.{is_operator, entries_at, entry_chain}
-use Rattle.ppmacro.specs.PreExpansion.{with_use, used_parameters, lone_parameters}
+use Rattle.ppmacro.specs.PreExpansion.{with_use, used_parameters, lone_parameters, order_by}
+use Rattle.ppmacro.specs.VaOptChains.{Ordinary, list_chains}
+use Rattle.pptext.specs.declared.sources.Profile.TheVariants.{Later, Gnu}
+use Rattle.ppmacro.proofs.VaOptLemmas.{plain-list}
 use Rattle.ppmacro.specs.code.KeptChains.{lone_parameter_at}
 use Rattle.ppmacro.proofs.EntryChains.{entry_chains}
 use Rattle.ppmacro.proofs.ExpansionOrders.{each_within, used_in_order}
@@ -34,15 +37,16 @@ pub returns-then-has_operator-clause-prepared : goal.returns-then-has_operator-c
 returns-then-has_operator-clause-prepared c =
     let body = c.args.body.now in
     let d : Macro = record { kind = c.args.kind; body = body } in
+    let plain : Ordinary (chains_of d) ≡ list_chains d = sym (plain-list d c.requires.separated) in
     let us = c.as_slice-then-has_operator.result.now in
     let alone : us ≡ lone_parameters (chains_of d) =
     c.as_slice-then-has_operator.ensures.value ∙ c.in_ok-uses.ensures ∙ ap (map (lone_parameter_at body)) c.as_slice.ensures.value
     ∙ chains-alone body c.in_ok-chains.chains.items ∙ ap lone_parameters c.in_ok-chains.ensures in record {
-      chains = c.in_ok-chains.ensures;
-      lone = sym (ap (λ b. b && not (list_any is_paste body)) (not-object c.args.kind c.requires));
+      chains = ap Ordinary c.in_ok-chains.ensures ∙ plain;
+      lone = sym (ap (λ b. b && not (list_any is_paste body)) (not-object c.args.kind c.requires.function_like));
       by_parameter = c.in_ok-used.ensures.by_parameter ∙ used_in_order (chains_of d) _ us alone
-          ∙ ap (λ ns. used_parameters (chains_of d) (length ns)) c.parameter_names-count.ensures;
-      by_use = c.in_ok-used.ensures.by_use ∙ ap (fold with_use []) alone;
+          ∙ ap (λ ns. used_parameters (chains_of d) (length ns)) c.parameter_names-count.ensures ∙ ap (order_by Later d) plain;
+      by_use = c.in_ok-used.ensures.by_use ∙ ap (fold with_use []) alone ∙ ap (order_by Gnu d) plain;
     }
 
 pub returns-clause-prepared : goal.returns-clause-prepared
@@ -52,12 +56,13 @@ returns-clause-prepared c =
     let d : Macro = record { kind = kind; body = body } in
     let none : list_any is_operator body ≡ false = sym c.has_operator.ensures ∙ c.if-has_operator.false in
     let uses = c.in_ok-uses-2.ensures in
+    let plain : Ordinary (chains_of d) ≡ list_chains d = sym (plain-list d c.requires.separated) in
     let us = c.as_slice-2.result.now in
     let alone : us ≡ lone_parameters (chains_of d) =
     c.as_slice-2.ensures.value ∙ uses ∙ uses-alone kind body ∙ ap lone_parameters (entry_chains kind body none) in record {
-      chains = ap (λ us. map entry_chain (entries_at us body)) uses ∙ ap (map entry_chain) (entries-of kind body) ∙ entry_chains kind body none;
-      lone = sym (ap (λ b. b && not (list_any is_paste body)) (not-object kind c.requires));
+      chains = ap Ordinary (ap (λ us. map entry_chain (entries_at us body)) uses ∙ ap (map entry_chain) (entries-of kind body) ∙ entry_chains kind body none) ∙ plain;
+      lone = sym (ap (λ b. b && not (list_any is_paste body)) (not-object kind c.requires.function_like));
       by_parameter = c.in_ok-used-2.ensures.by_parameter ∙ used_in_order (chains_of d) _ us alone
-          ∙ ap (λ ns. used_parameters (chains_of d) (length ns)) c.parameter_names-count.ensures;
-      by_use = c.in_ok-used-2.ensures.by_use ∙ ap (fold with_use []) alone;
+          ∙ ap (λ ns. used_parameters (chains_of d) (length ns)) c.parameter_names-count.ensures ∙ ap (order_by Later d) plain;
+      by_use = c.in_ok-used-2.ensures.by_use ∙ ap (fold with_use []) alone ∙ ap (order_by Gnu d) plain;
     }

@@ -1,6 +1,6 @@
 use Rattle.std.proofs.Common.{sym, ◌∙◌}
 use Rattle.ppmacro.proofs.TableFreeDefinitions.{unrefusable}
-use Rattle.ppmacro.proofs.defining.refusal_of.Goals as goal
+use Rattle.ppmacro.proofs.defining.plain_refusal.Goals as goal
 
 pub returns : goal.returns
 returns c = λ profile name.
