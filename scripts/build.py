@@ -8,10 +8,10 @@ import sys
 import tempfile
 import time
 
-import depfile
 from commands import Report, commands
-from common import DONE, GENERATED, PARTLY, Refused, own_names, parser, run, say, units, written
+from common import DONE, PARTLY, STREAM, Refused, parser, run, say, written
 from compilers import HAS_INCLUDE, SECONDS, Compilers
+from deps import FORMS, deps
 from faults import forms, print_faults, wants_color
 from lists import Additions, Builder, bytes_of, list_of
 from runs import PIECE, Program, gather_all
@@ -19,11 +19,13 @@ from runs import PIECE, Program, gather_all
 TEXT = """\
 Preprocess the C units of a build, as its compile_commands.json has them.
 
-  build.py deps     write a dependency file for each unit, like gcc -MD: --into DIR
+  build.py deps     write a dependency file for each unit, like gcc -MD, or print JSON or rules: --format
   build.py dump     print the tokens and dependencies of each unit, like `cppunits dump`
   build.py faults   print the first fault of each unit that has one, like faults.py: by file, line and column
 
 Example, in a project's build directory:  build.py faults compile_commands.json
+
+Options may come before or after the task's name.
 
 The compilers of the commands are asked for their directories, macros and operators, under the options that change them.
 Only cc, gcc and clang, with a version or a target's name, are run, and only from PATH, /usr and /opt; use --query-driver
@@ -53,22 +55,22 @@ class Progress:
 
 
 class Summary(Report):
-    """Reports what a list can't express, and counts the commands that are left out."""
+    """Reports what a list can't express, and counts the commands of other languages without a report."""
 
     def __init__(self, progress):
         super().__init__()
-        self.progress, self.out = progress, {}
+        self.progress = progress
 
     def add(self, line):
         self.progress.clear()
         super().add(line)
 
+    def end(self):
+        self.progress.clear()
+        super().end()
+
     def left_out(self, path, reason):
         self.out[reason] = self.out.get(reason, 0) + 1
-
-    def end(self):
-        for reason, count in self.out.items():
-            say("%d commands are left out: %s" % (count, reason))
 
 
 class CompilerAdditions(Additions):
@@ -102,20 +104,38 @@ class Work:
         facts = argparse.Namespace(**FACTS, profile=asked.profile, generate=os.path.join(folder, "root"))
         self.compilers = Compilers(self.report, asked.query_driver, asked.seconds)
         self.builder = Builder(facts, self.report, CompilerAdditions(self.compilers, asked), True)
-        self.listed, self.pairs = None, []
+        self.commands, self.listed, self.pairs, self.failed = [], None, [], False
+        # for the summary: the number of units, and of those among them that were run, if not all were
+        self.units, self.anew = 0, None
 
-    def prepare(self):
-        """Makes the list, and writes it to a file if that was asked for."""
+    def begin(self):
+        """Reads the commands, and asks their compilers."""
         self.progress("reading %s" % self.asked.build)
-        all_commands = list(commands(self.asked.build, self.report))
+        self.commands = commands(self.asked.build, self.report)
         self.progress("asking compilers")
-        self.compilers.ask_for(all_commands)
-        self.progress("looking for the files of %d units" % len(all_commands))
-        gather_all(self.builder, all_commands, self.program, self.learn, self.progress)
-        rows, self.pairs = self.builder.build(all_commands)
+        self.compilers.ask_for(self.commands)
+
+    def make_list(self, some_commands):
+        """Makes the list of these commands, and writes it to a file if that was asked for."""
+        self.progress("looking for the files of %d units" % len(some_commands))
+        gather_all(self.builder, some_commands, self.program, self.learn, self.progress)
+        rows, self.pairs = self.builder.build(some_commands)
         self.listed = list_of(self.builder.asked, rows, self.pairs)
         if self.asked.list:
-            self.keep(all_commands)
+            self.keep(some_commands)
+
+    def prepare(self):
+        """Reads the commands, and makes the list of all."""
+        self.begin()
+        self.make_list(self.commands)
+        self.expect(len(self.pairs))
+
+    def expect(self, count):
+        """Takes the number of units; refuses a build without one."""
+        self.units = count
+        if not count:
+            self.report.end()
+            raise Refused("%s: no unit can be expressed" % self.asked.build)
 
     def keep(self, all_commands):
         """Writes the list; if files were generated, with the contents of all files."""
@@ -136,19 +156,35 @@ class Work:
             file.writelines(self.pieces(word))
         return path
 
-    def pieces(self, word):
-        """Yields the output of cppunits in pieces that end with whole lines."""
-        self.progress("running %d units over %d files" % (len(self.pairs), len(self.listed["files"])))
+    def pieces(self, word, terminal=False):
+        """Yields the output of cppunits in pieces that end with whole lines; counts the units in it, unless they go to a terminal."""
+        count, done = len(self.pairs), 0
+        self.progress("running %d units over %d files" % (count, len(self.listed["files"])))
         for piece in self.program.pieces(word, self.listed, self.builder.root):
-            self.progress.clear()
+            if terminal:
+                self.progress.clear()
             yield piece
+            if not terminal:
+                lines = b"\n" + piece
+                done += lines.count(b"\nok\n") + lines.count(b"\nfault ")
+                self.progress("%d of %d units are written" % (done, count))
 
     def end(self):
         """Prints the summary, and returns the exit status."""
         self.report.end()
-        say("%d units, %d with a fault, %d files (%d on the list), %.1f seconds"
-            % (len(self.pairs), self.faults, len(self.read), len(self.listed["files"]), time.monotonic() - self.began))
-        return PARTLY if self.faults or self.report.lines else DONE
+        self.progress.clear()
+        units, files = "%d units" % self.units, "%d files" % len(self.read)
+        if self.anew is not None:
+            units += " (%d anew)" % self.anew
+        if self.listed is not None and self.anew is None:
+            files += " (%d on the list)" % len(self.listed["files"])
+        say("%s, %d with a fault, %s, %.1f seconds" % (units, self.faults, files, time.monotonic() - self.began))
+        return STREAM if self.failed else PARTLY if self.faults or self.report.lines else DONE
+
+    def fail(self, line):
+        """Reports a file that can't be read or written, and goes on; the status will say it."""
+        self.failed = True
+        self.report.add(line)
 
     def count(self, path):
         """Counts the faults of an output and the files that were read, and yields its bytes in pieces."""
@@ -164,57 +200,16 @@ class Work:
             yield piece
 
 
-def deps(work):
-    """Writes the dependency files."""
-    sources = [os.path.dirname(command.file) for command, _ in work.pairs]
-    front = os.path.join(os.path.commonpath(sources), "")[1:] if sources else ""
-    path = work.run("deps")
-    for _ in work.count(path):
-        pass
-    for (unit, own), (command, _) in zip(own_names(units(path), ".d"), work.pairs):
-        if unit.fault is not None:
-            say("%s: fault %s (`build.py faults` says more)" % (command.file, unit.fault.split(" ")[0]))
-            continue
-        names = [os.fsencode(name) for name in dependencies(command, unit)]
-        headers = names[1:] if work.asked.phony else []
-        target = os.fsencode(command.target or command.output or depfile.object_of(os.path.basename(command.file)))
-        try:
-            text = depfile.rule(target, names, headers)
-        except Refused as refusal:
-            work.report.add("%s: %s" % (command.file, refusal))
-            continue
-        with written(os.path.join(work.asked.into, own[len(front):])) as file:
-            file.write(text)
-
-
-def dependencies(command, unit):
-    """Returns the names of a unit's dependencies: relative if the command names their directory so, otherwise absolute."""
-    near = tuple(sorted(command.near))
-    whole = tuple(sorted({os.path.dirname(command.file), *sum(command.folders.values(), [])} - command.near))
-    made = GENERATED.encode() + b"/"
-    paths = ["/" + os.fsdecode(name) for name in unit.dependencies() if not name.startswith(made)]
-    if command.file in paths:
-        # a file that a generated file included comes first here, as if it were compiled itself
-        paths.insert(0, paths.pop(paths.index(command.file)))
-    return [os.path.relpath(path, command.directory) if is_near(near, whole, path) else path for path in paths]
-
-
-def is_near(near, whole, path):
-    """Returns whether the deepest listed directory above a path has a relative name."""
-    if not near:
-        return False
-    depth = max((len(folder) for folder in near if path.startswith(folder + "/")), default=-1)
-    return depth > max((len(folder) for folder in whole if path.startswith(folder + "/")), default=-1)
-
-
 def dump(work):
     """Prints the dump."""
+    work.prepare()
     with written(work.asked.output) as out:
-        out.writelines(work.counted(work.pieces("dump")))
+        out.writelines(work.counted(work.pieces("dump", work.asked.output == "-" and sys.stdout.isatty())))
 
 
 def faults(work):
     """Prints the faults."""
+    work.prepare()
     path = work.run("deps")
     for _ in work.count(path):
         pass
@@ -251,14 +246,20 @@ def options():
         word.add_argument("build", metavar="FILE", nargs="?", default="compile_commands.json",
                           help="read these compile commands (default: compile_commands.json; -: standard input)")
         if task is deps:
-            word.add_argument("--into", metavar="DIR", default="cppunits-deps", help="write the files to this directory (default: cppunits-deps)")
-            word.add_argument("--phony", action="store_true", help="add a rule without prerequisites for each header, for make")
+            word.add_argument("--into", metavar="DIR", help="write the files to this directory (default: where each command wants its own)")
+            word.add_argument("--format", dest="form", choices=tuple(FORMS), default="files",
+                              help="write a file for each unit, or print rules for make, or a JSON object a line (default: files)")
+            word.add_argument("--anew", action="store_true", help="run all units, not only those that changed since the last run")
+            word.add_argument("--phony", action="store_true", help="add a rule without prerequisites for each header, for make, as -MP does")
         if task is dump:
             word.add_argument("--output", metavar="FILE", default="-", help="write here (default: standard output)")
         if task is faults:
             forms(word)
         shared(word)
-    return asked.parse_args()
+    words = asked.parse_args()
+    if words.task is deps and words.into is not None and words.form != "files":
+        asked.error("--into goes with --format files alone")
+    return words
 
 
 def shared(word):
@@ -282,7 +283,6 @@ def main():
     with tempfile.TemporaryDirectory(prefix="cppunits.") as folder:
         work = Work(asked, os.path.realpath(folder))
         try:
-            work.prepare()
             asked.task(work)
         finally:
             work.progress.clear()

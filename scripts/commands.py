@@ -11,11 +11,13 @@ PREDEFINED = {"__FILE__", "__LINE__", "__DATE__", "__TIME__", "__STDC__", "__STD
 NEVER = PREDEFINED | {"defined", "__VA_ARGS__"}
 
 FOLDERS = {"-I": "bracket", "-iquote": "quote", "-isystem": "system", "-idirafter": "after"}
-READ = (*FOLDERS, "-D", "-U", "-include", "-x", "-o")
+READ = (*FOLDERS, "-D", "-U", "-include", "-x", "-o", "-MF", "-MT", "-MQ")
+# options without a value that say something of the dependency file
+DEPENDING = ("-MD", "-MMD", "-MP")
 LONG = {"--include-directory": "-I", "--define-macro": "-D", "--undefine-macro": "-U", "--include": "-include",
         "--output": "-o", "--language": "-x"}
 # options whose next word is their value, and which mean nothing to a preprocessor
-WORD_BEHIND = set("""-MF -MT -MQ -MJ -L -l -T -u -z -e -G -A -arch -target --target --param -Xlinker -Xassembler -Xclang
+WORD_BEHIND = set("""-MJ -L -l -T -u -z -e -G -A -arch -target --target --param -Xlinker -Xassembler -Xclang
     -mllvm -framework -isysroot --sysroot -aux-info -dumpbase -dumpbase-ext -dumpdir -wrapper -specs
     --serialize-diagnostics -install_name -gcc-toolchain -include-pch""".split())
 NOT_READ = ("-imacros", "-iprefix", "-iwithprefix", "-iwithprefixbefore", "-I-", "-Xpreprocessor", "-imultilib")
@@ -35,26 +37,54 @@ LANGUAGES = set("c c-header cpp-output c++ c++-header c++-cpp-output objective-c
                 " assembler-with-cpp cuda none".split())
 
 
+class LeftOut(Exception):
+    """Says why a command isn't run: something that it names is missing."""
+
+
+class Wanted:
+    """Holds what a command says of its dependency file: the file of -MF, whether -MD writes one beside the object, the targets of -MT and
+    -MQ in order, each with its option, and whether -MP asks for a rule for each header."""
+
+    def __init__(self):
+        self.file, self.beside, self.targets, self.phony = None, False, [], False
+
+    def take(self, option, word):
+        if option == "-MF":
+            self.file = word
+        elif option in ("-MT", "-MQ"):
+            self.targets.append((option, word))
+        elif option == "-MP":
+            self.phony = True
+        else:
+            self.beside = True
+
+
 class Command:
     """Holds what a command asks of the preprocessor: directories, definitions in order, and files to include first.
 
     `compiler` is the word that names the compiler, after ccache and the like.  `asking` has the options that change what the compiler
-    answers.  `near` has the directories with a relative name in the command; the names of their files are relative, too.  `trigraphs` says
-    whether gcc replaces trigraphs under the command's options."""
+    answers.  `spelled` has the names of the command's file and directories as it spells them.  `wanted` has what it says of its dependency
+    file.  `trigraphs` says whether gcc replaces trigraphs under the command's options."""
 
     def __init__(self, entry, report):
         self.directory = os.path.abspath(entry["directory"])
         self.file = at(self.directory, entry["file"])
-        self.report, self.output, self.target = report, self.written(entry.get("output")), None
+        self.report, self.output, self.target = report, self.written("-o", entry.get("output")), None
         self.folders = {kind: [] for kind in FOLDERS.values()}
-        self.definitions, self.named, self.includes, self.asking, self.near = {}, set(), [], [], set()
-        self.trigraphs = False
+        self.definitions, self.named, self.includes, self.asking, self.spelled = {}, set(), [], [], {}
+        self.trigraphs, self.wanted = False, Wanted()
         self.language = SUFFIXES.get(os.path.splitext(self.file)[1], "other")
         words = self.words_of(entry)
-        if not (os.path.isabs(entry["file"]) and entry["file"] in words):
-            self.near.add(os.path.dirname(self.file))
+        self.spelled[self.file] = self.spelling(entry["file"], words)
         for option, word in self.options(words):
             self.take(option, word)
+
+    def spelling(self, name, words):
+        """Returns the name of the command's file as the command spells it; the entry may spell it in another way."""
+        if name in words:
+            return name
+        last = os.path.basename(name)
+        return next((word for word in words if word.endswith(last) and at(self.directory, word) == self.file), name)
 
     def words_of(self, entry):
         """Returns the words after the compiler's name."""
@@ -65,14 +95,15 @@ class Command:
 
     def with_responses(self, words, depth):
         """Returns the words, with @FILE and -Wp, replaced by the words that they stand for."""
+        before = None
         for word in words:
-            if word.startswith("@") and depth < 16 and os.path.isfile(path := os.path.join(self.directory, word[1:])):
-                with open(path, encoding="utf-8", errors="surrogateescape") as file:
-                    yield from self.with_responses(split_response(file.read()), depth + 1)
+            if word.startswith("@") and depth < 16 and before not in WORD_BEHIND:
+                yield from self.with_responses(response(self.directory, word[1:]), depth + 1)
             elif word.startswith("-Wp,"):
-                yield from word[4:].split(",")
+                yield from preprocessor_words(word[4:].split(","))
             else:
                 yield word
+            before = word
 
     def options(self, words):
         """Yields the options that are read, each with its value, and reports those that can't be read."""
@@ -109,8 +140,7 @@ class Command:
             if is_folder(folder):
                 self.report.same(os.path.join(self.directory, word), folder)
                 self.folders[FOLDERS[option]].append(folder)
-                if not os.path.isabs(word):
-                    self.near.add(folder)
+                self.spelled.setdefault(folder, word)
         elif option == "-D":
             self.define(word)
         elif option == "-U":
@@ -122,15 +152,17 @@ class Command:
         elif option == "-x" and word in LANGUAGES - {"none"}:
             self.language = "c" if word == "c-header" else word
         elif option == "-o":
-            self.target = self.written(word)
+            self.target = self.written(option, word)
             self.output = self.output or self.target
+        elif option in DEPENDING or (option.startswith("-M") and self.written(option, word) is not None):
+            self.wanted.take(option, word)
 
-    def written(self, name):
-        """Returns the name of the output file, or None if it is no valid text."""
+    def written(self, option, name):
+        """Returns the name of an option for an output file, or None if it is no valid text."""
         try:
             return name and os.fsdecode(os.fsencode(name))
         except UnicodeEncodeError:
-            self.report.add("%s: -o %s: no text" % (self.file, name))
+            self.report.add("%s: %s %s: no text" % (self.file, option, name))
             return None
 
     def define(self, word):
@@ -156,6 +188,13 @@ class Command:
         return searched(self.folders, system)
 
 
+def preprocessor_words(words):
+    """Returns the words of -Wp, where -MD and -MMD have a value, the dependency file."""
+    if words[0] in ("-MD", "-MMD") and len(words) > 1:
+        return [words[0], "-MF", *words[1:]]
+    return words
+
+
 @functools.lru_cache(maxsize=65536)
 def option_of(word):
     """Returns what to do with a command's word, the option's name, and its value; the value is None if it is the next word."""
@@ -164,6 +203,8 @@ def option_of(word):
         return "read", LONG[head], tail if sign else None
     if word in READ:
         return "read", word, None
+    if word in DEPENDING:
+        return "read", word, ""
     if word.startswith(NOT_READ):
         return "not read", word, None
     if word in WORD_BEHIND:
@@ -238,6 +279,18 @@ def unquoted(found):
     return escaped or single or ("" if single is not None else found[0])
 
 
+def response(directory, name):
+    """Returns the words of a response file."""
+    path = os.path.join(directory, name)
+    try:
+        with open(path, encoding="utf-8", errors="surrogateescape") as file:
+            return split_response(file.read())
+    except FileNotFoundError:
+        raise LeftOut("there is no response file %s" % path) from None
+    except (OSError, ValueError) as error:
+        raise LeftOut("the response file %s can't be read: %s" % (path, getattr(error, "strerror", None) or error)) from None
+
+
 def split_response(text):
     """Splits a response file into words: quotes keep white space in a word, and a backslash keeps the next character."""
     words = shlex.shlex(text, posix=True, punctuation_chars=False)
@@ -260,23 +313,36 @@ def unique(words):
 
 
 def commands(path, report):
-    """Returns the commands of a build's C units."""
+    """Returns the commands of a build's C units; refuses a build without one."""
     with opened(path) as file:
         entries = read_json(path, file.read())
     if not isinstance(entries, list):
         raise Refused("%s is no compile_commands.json: it is to be an array" % path)
-    for number, entry in enumerate(entries):
-        try:
-            command = Command(entry, report)
-        except (KeyError, TypeError, AttributeError, ValueError) as error:
-            raise Refused("%s, entry %d: no `directory`, `file` and `command` or `arguments` (%s)"
-                          % (path, number, error)) from None
-        if command.language != "c":
-            report.left_out(command.file, "no C file")
-        elif not os.path.isfile(command.file):
-            report.left_out(command.file, "there is no such file (is it made by the build?)")
-        else:
-            yield command
+    found = [command for number, entry in enumerate(entries) if (command := taken(path, number, entry, report)) is not None]
+    if not found:
+        report.end()
+        raise Refused("%s: there is no C unit among its %d commands" % (path, len(entries)))
+    return found
+
+
+def taken(path, number, entry, report):
+    """Returns the command of an entry, or None if it is left out, which is reported."""
+    try:
+        command = Command(entry, report)
+    except LeftOut as reason:
+        report.missing(at(os.path.abspath(entry["directory"]), entry["file"]), "a response file is missing", reason)
+        return None
+    except (KeyError, TypeError, AttributeError, ValueError) as error:
+        raise Refused("%s, entry %d: no `directory`, `file` and `command` or `arguments` (%s)" % (path, number, error)) from None
+    if command.language != "c":
+        report.left_out(command.file, "no C file")
+    elif not is_folder(command.directory):
+        report.missing(command.file, "their directory is missing", "there is no directory %s" % command.directory)
+    elif not os.path.isfile(command.file):
+        report.missing(command.file, "there is no such file (is it made by the build?)")
+    else:
+        return command
+    return None
 
 
 def is_text(word):
@@ -296,10 +362,10 @@ def is_name(name):
 
 
 class Report:
-    """Reports what a list can't express: each message once, on standard error."""
+    """Reports what a list can't express: each message once, on standard error.  Counts the commands that are left out."""
 
     def __init__(self):
-        self.lines = set()
+        self.lines, self.out = set(), {}
 
     def add(self, line):
         if line not in self.lines:
@@ -307,8 +373,18 @@ class Report:
             say(line)
 
     def left_out(self, path, reason):
-        """Reports a command that isn't part of the list."""
-        self.add("%s: %s" % (path, reason))
+        """Reports and counts a command that isn't part of the list."""
+        self.missing(path, reason)
+
+    def missing(self, path, reason, what=None):
+        """Reports and counts a command that is left out because something is missing; `what` may say more than the reason."""
+        self.out[reason] = self.out.get(reason, 0) + 1
+        self.add("%s: %s" % (path, what or reason))
+
+    def end(self):
+        """Says how many commands are left out, by reason."""
+        for reason, count in self.out.items():
+            say("%d commands are left out: %s" % (count, reason))
 
     def same(self, asked, taken):
         """Reports a path where removing `..` by name gives another directory than the disk does: after a symbolic link they differ."""

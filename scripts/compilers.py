@@ -17,6 +17,7 @@ import time
 from concurrent.futures import ThreadPoolExecutor
 
 from commands import at, defined_name, is_text, unique
+from files import hashed
 
 NAME = re.compile(r"(?:\w[\w.]*-){0,5}(?:cc|gcc|clang)(?:-\d[\d.]*)?")
 PLACES = ("/usr/", "/opt/")
@@ -56,6 +57,8 @@ class Answer:
 
     def __init__(self, folders, macros):
         self.folders, self.macros, self.operators, self.whole, self.asked = folders, macros, [], None, False
+        # tells answers apart, but for the values of the operators, which follow from the compiler and the options
+        self.key = hashed(repr([folders, sorted(macros.items())]).encode("utf-8", "surrogatepass"))
         self.known = {operator: {} for operator in OPERATORS}
 
     def definitions(self):

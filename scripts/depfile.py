@@ -28,9 +28,9 @@ def escaped(name):
     return name.replace(b"$", b"$$").replace(b"#", b"\\#").replace(b" ", b"\\ ").replace(b":", b"\\:")
 
 
-def rule(target, names, headers):
-    """Returns the rule's text, and an empty rule for each header, so that make goes on if a header is gone."""
-    text = escaped(target) + b":" + b"".join(b" \\\n  " + escaped(name) for name in names) + b"\n"
+def rule(targets, names, headers):
+    """Returns the rule's text, and an empty rule for each header, so that make goes on if a header is gone; the targets are escaped."""
+    text = targets + b":" + b"".join(b" \\\n  " + escaped(name) for name in names) + b"\n"
     return text + b"".join(escaped(name) + b":\n" for name in headers)
 
 
@@ -74,7 +74,7 @@ def main():
         if unit.fault is None or asked.partial:
             names = [prefix + name for name in unit.dependencies() if not name.startswith(made)]
             headers = [name for name in names if name != prefix + unit.source] if asked.phony else []
-            text = rule(target_of(unit, targets), names, headers)
+            text = rule(escaped(target_of(unit, targets)), names, headers)
             with written(os.path.join(asked.into, own)) as file:
                 file.write(text)
     return status

@@ -1,6 +1,8 @@
 """Finds the files that units can reach: reads their include lines, and looks for each name."""
+import hashlib
 import os
 import re
+import time
 
 from commands import PREDEFINED, at, unique
 
@@ -20,6 +22,8 @@ SPLICE = re.compile(rb"\\\r?\n")
 SPLICE_OR_TRIGRAPH = re.compile(rb"(?:\\|\?\?/)\r?\n")
 TRIGRAPH = re.compile(rb"\?\?[=/'()!<>-]")
 QUOTE, ANGLE, COMPUTED, EACH = "quote", "angle", "computed", "each"
+# a file that is younger may change again and keep its time
+TIE = 2000000000
 
 
 class Files:
@@ -32,6 +36,8 @@ class Files:
         self.report, self.gnu, self.every = report, gnu, every
         self.lines, self.there, self.below, self.operators = {}, {}, {}, {}
         self.missing, self.settled, self.shadows, self.defines, self.trigraphs = set(), {}, {}, {}, {}
+        # by path: what `stamp` returned before the file was read
+        self.stamps = {}
 
     def is_file(self, path):
         if path not in self.there:
@@ -41,6 +47,7 @@ class Files:
     def includes(self, path):
         """Returns the include lines of a file, each as its form and its name."""
         if path not in self.lines:
+            self.stamps[path] = stamp(path)
             text = joined_lines(content(path), self.gnu)
             found = include_lines(text, self.gnu) if b"include" in text else []
             if any(form == COMPUTED for form, _ in found):
@@ -219,6 +226,28 @@ def content(path):
             return file.read()
     except OSError:
         return b""
+
+
+def stamp(path):
+    """Returns a file's size, its time, and the hash of its content if its time may be that of a later change, too; None without a file."""
+    try:
+        found = os.stat(path)
+    except OSError:
+        return None
+    young = found.st_mtime_ns + TIE > time.time_ns()
+    return [found.st_size, found.st_mtime_ns, hashed(content(path)) if young else None]
+
+
+def is_same(path, stamped):
+    """Returns whether a file is as it was when `stamp` returned this."""
+    now = stamp(path)
+    if now is None or stamped is None or now[:2] != stamped[:2]:
+        return False
+    return stamped[2] is None or hashed(content(path)) == stamped[2]
+
+
+def hashed(data):
+    return hashlib.blake2b(data, digest_size=16).hexdigest()
 
 
 def joined_lines(text, gnu):

@@ -71,7 +71,7 @@ def options():
 def main():
     asked, report = options(), Report()
     builder = Builder(asked, report, Additions(asked.system, asked.define), asked.program is not None)
-    all_commands = list(commands(asked.build, report))
+    all_commands = commands(asked.build, report)
     if asked.program is None:
         builder.gather(all_commands)
     else:

@@ -355,25 +355,46 @@ class Lists(Builds):
         with open(self.path("list.json"), "rb") as file:
             self.assertIn(b" i+ cfg\n", cppunits("dump", stdin=file).stdout)
         self.build("deps", ["gcc -include cfg.h -o x.o -c a.c"])
-        with open(self.path("cppunits-deps/a.c.d")) as file:
+        with open(self.path("x.o.d")) as file:
             self.assertEqual(file.read(), "x.o: \\\n  a.c \\\n  cfg.h\n")
 
-    def test_dependency_files(self):
-        """Wants relative names if the command's are relative, the command's targets, and a number for a further unit of a file."""
-        write(self.top, {"src/a.c": '#include <sys.h>\n#include "own.h"\n#include <inc.h>\n', "src/own.h": "", "inc/inc.h": ""})
-        whole = self.path("src/a.c")
-        commands = [("gcc -Iinc -o a.o -c src/a.c", "src/a.c"), (["gcc", "-Iinc", "-c", whole], whole)]
-        self.build("deps", commands, "--into", "d", "--phony")
-        for name, front, target in ("a.c.d", "", "a.o"), ("a.c.1.d", self.top + "/", "a.o"):
-            names = [front + "src/a.c", self.path("sys/sys.h"), front + "src/own.h", "inc/inc.h"]
-            with open(self.path("d/" + name)) as file:
-                self.assertEqual(file.read(), " \\\n  ".join([target + ":", *names]) + "\n" + "".join(name + ":\n" for name in names[1:]))
-
     def test_commands_that_are_left_out(self):
-        tokens, messages = self.tokens([("g++ -c b.cc", "b.cc"), ("g++ -c c.cc", "c.cc"), "gcc -c a.c", ("gcc -c none.c", "none.c")])
-        self.assertEqual(len(tokens), 1)
-        self.assertEqual(messages[:2], ["build.py: 2 commands are left out: no C file",
-                                    "build.py: 1 commands are left out: there is no such file (is it made by the build?)"])
+        tokens, messages = self.tokens([("g++ -c b.cc", "b.cc"), ("g++ -c c.cc", "c.cc"), "gcc -c a.c"])
+        self.assertEqual((len(tokens), messages[0]), (1, "build.py: 2 commands are left out: no C file"))
+
+    def test_what_is_missing_is_named_and_counted(self):
+        """Wants the other units, a line for each command and one for each reason, and status 1."""
+        write(self.top, {"words": "-DWHO=2 @more", "more": "-DMORE"})
+        os.mkdir(self.path("folder"))
+        commands = ["gcc -c a.c", ("gcc -c none.c", "none.c"), "gcc @nothing -c a.c", "gcc @words -c a.c", "gcc @folder -c a.c", "gcc -install_name @here -c a.c"]
+        tokens, messages = self.tokens(commands, status=1)
+        self.assertEqual([unit[-1] for unit in tokens], ["1", "2", "1"])
+        self.assertEqual([line.replace(self.top + "/", "") for line in messages[:-1]], ["build.py: " + line for line in (
+            "none.c: there is no such file (is it made by the build?)", "a.c: there is no response file nothing",
+            "a.c: the response file folder can't be read: Is a directory",
+            "1 commands are left out: there is no such file (is it made by the build?)", "2 commands are left out: a response file is missing")])
+
+    def test_a_directory_that_is_missing(self):
+        entries = [{"directory": folder, "file": self.path("a.c"), "command": "gcc -c a.c"} for folder in (self.top, self.path("gone"))]
+        write(self.top, {"c.json": json.dumps(entries)})
+        for task, status in ("faults", 1), ("deps", 1), ("dump", 1):
+            done = run(self.words(task, "c.json"), cwd=self.top, env=self.environment())
+            self.assertEqual(done.returncode, status)
+            messages = done.stderr.decode().splitlines()
+            self.assertEqual(messages[:2], ["build.py: %s: there is no directory %s" % (self.path("a.c"), self.path("gone")),
+                                            "build.py: 1 commands are left out: their directory is missing"])
+            self.assertIn("1 units, 0 with a fault", messages[2])
+
+    def test_no_unit_at_all(self):
+        """Wants a refusal that says why."""
+        for task in "deps", "dump", "faults":
+            self.assertEqual(self.build(task, [], status=3)[1], ["build.py: compile_commands.json: there is no C unit among its 0 commands"])
+            messages = self.build(task, [("gcc -c none.c", "none.c"), ("g++ -c b.cc", "b.cc")], status=3)[1]
+            self.assertEqual(messages[0], "build.py: %s: there is no such file (is it made by the build?)" % self.path("none.c"))
+            self.assertEqual(messages[1:], ["build.py: 1 commands are left out: there is no such file (is it made by the build?)",
+                                            "build.py: 1 commands are left out: no C file",
+                                            "build.py: compile_commands.json: there is no C unit among its 2 commands"])
+        self.assertEqual([name for name in os.listdir(self.top) if name.endswith((".d", ".seen"))], [])
 
     def test_list_from_build_asks_the_program(self):
         write(self.top, {"a.c": "#include X\n", "x/x.h": "x\n", "x/y.h": ""})
@@ -411,6 +432,7 @@ class Runs(Builds):
         os.close(ours)
         self.assertEqual(done.returncode, 0)
         self.assertIn("\r\x1b[Krunning 1 units over 2 files", messages)
+        self.assertIn("\r\x1b[K1 of 1 units are written", messages)
         self.assertRegex(messages, "\r\x1b\\[Kbuild.py: 1 units, 0 with a fault")
 
     def test_workers_are_the_programs(self):
@@ -463,17 +485,32 @@ class Runs(Builds):
         self.build("deps", ["gcc -c a.c"], "--program", self.path("bin/cppunits"), status=3)
 
     def test_what_is_no_build(self):
-        for text, status in (("[", 3), ("{}", 3), ('[{"file":"a.c"}]', 3), ("[]", 0),
+        for text, status in (("[", 3), ("{}", 3), ('[{"file":"a.c"}]', 3), ("[]", 3),
                              ('[{"directory":1,"file":"a","arguments":[]}]', 3), ('[{"directory":".","file":"a.c","command":"gcc \\""}]', 3),
                              ('[{"directory":".","file":"a.c","command":"gcc","output":7}]', 3)):
             write(self.top, {"c.json": text})
             done = run(self.words("faults", "c.json"), cwd=self.top, env=self.environment())
             self.assertEqual((done.returncode, done.stderr.count(b"\n")), (status, 1), text)
         self.assertEqual(run(self.words("faults", "none.json"), cwd=self.top).returncode, 5)
-        for words in ["--none"], [], ["dump", "--workers", "0"], ["deps", "--workers", "65"], ["deps", "--seconds", "x"]:
-            self.assertEqual(run([sys.executable, BUILD, *words]).returncode, 2, words)
-        for words in ["--help"], ["deps", "--help"]:
+        for words in (["--none"], [], ["dump", "--workers", "0"], ["deps", "--workers", "65"], ["deps", "--seconds", "x"], ["--seconds", "x", "deps"],
+                      ["--phony", "dump"], ["c.json", "deps"], ["--workers"]):
+            done = run([sys.executable, BUILD, *words])
+            self.assertEqual((done.returncode, done.stdout, done.stderr.count(b"\n")), (2, b"", 1), words)
+        for words in ["--help"], ["deps", "--help"], ["--workers", "3", "deps", "--help"]:
             self.assertEqual(run([sys.executable, BUILD, *words]).returncode, 0)
+
+    def test_options_before_and_after_the_task(self):
+        """Wants the same from each order, also for a value that is a task's name, an option with `=`, and a shortened one."""
+        write(self.top, {"a.c": "WHO deps more\n", "c.json": json.dumps([{"directory": self.top, "file": "a.c", "command": "gcc -c a.c"}])})
+        options = ["--program", program(), "--define", "deps 3", "--define=more 4", "--wor", "2", "--output", "dump"]
+        for count in range(0, len(options) + 1):
+            if count and options[count - 1] in ("--program", "--define", "--wor", "--output"):
+                continue
+            done = run([sys.executable, BUILD, *options[:count], "dump", *options[count:], "c.json"], cwd=self.top, env=self.environment())
+            self.assertEqual(done.returncode, 0, done.stderr)
+            with open(self.path("dump")) as file:
+                self.assertEqual(re.findall(r"^tok .* (.*)$", file.read(), re.MULTILINE), ["1", "3", "4"])
+            os.unlink(self.path("dump"))
 
 
 class Real(Builds):
@@ -496,12 +533,9 @@ class Real(Builds):
         for (words, file), found in zip(commands, tokens):
             text = re.sub("(?m)^#pragma.*", "", well([*words, "-E", "-P"], cwd=self.top).decode())
             self.assertTrue(found == TOKEN.findall(text), words)
-        self.build("deps", commands)
-        numbers = {}
+        self.build("deps", [([*words, "-o", "%d.o" % number], file) for number, (words, file) in enumerate(commands)])
         for number, (words, file) in enumerate(commands):
-            name = "cppunits-deps/%s%s.d" % (file[4:], ".%d" % number if file in numbers else "")
-            numbers[file] = number
-            with open(self.path(name)) as rule:
+            with open(self.path("%d.o.d" % number)) as rule:
                 found = names_of(rule.read())
             wanted = names_of(well([*words, "-M"], cwd=self.top).decode())
             self.assertEqual(found, wanted, words)

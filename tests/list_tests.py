@@ -307,7 +307,7 @@ class Commands(Lists):
         self.assertEqual(sorted(os.listdir(self.top)), ["commands.json", "demo", "list.json"])
 
     def test_what_is_no_build(self):
-        for text, status in ("[", 3), ("{}", 3), ('[{"file":"a.c"}]', 3), ("[]", 0):
+        for text, status in ("[", 3), ("{}", 3), ('[{"file":"a.c"}]', 3), ("[]", 3):
             write(self.top, {"commands.json": text})
             done = script("list_from_build.py", os.path.join(self.top, "commands.json"))
             self.assertEqual((done.returncode, done.stderr.count(b"\n")), (status, 1), text)

@@ -1,0 +1,116 @@
+"""Remembers what a run of `build.py deps` saw, so that the next runs only the units that may have changed.
+
+The file has the names that each unit's rule has, the size and time of each file, and the paths that were looked for in vain.  A unit is
+run again if its command, its compiler's answer or a file that it opened changed, or if a file came or went that an include line of these
+names by the last part of its path.  A unit with a fault is run always."""
+import json
+import os
+
+from commands import is_text
+from common import compact, say, written
+from files import COMPUTED, hashed, is_same, stamp
+
+FORM = "cppunits seen 1"
+
+
+class Memory:
+    """Holds what is in the file: files with their stamps and the names of their include lines, units, and paths that weren't there."""
+
+    def __init__(self):
+        # by path: the stamp, the last parts of the names of its include lines, and whether a macro makes a name
+        self.files = {}
+        # by a unit's key: pairs of a path and a name
+        self.units = {}
+        self.absent, self.lines = set(), []
+
+    @classmethod
+    def read(cls, path, setting):
+        """Returns the memory of a file, or an empty one if there is none or its setting is another."""
+        memory = cls()
+        try:
+            with open(path, "rb") as file:
+                value = json.loads(file.read().decode())
+            if value["setting"] == setting:
+                memory.fill(value)
+        except FileNotFoundError:
+            pass
+        except (OSError, ValueError, KeyError, TypeError, IndexError, AttributeError, RecursionError):
+            say("%s: nothing can be learnt from it, so each unit is run" % path)
+            return cls()
+        return memory
+
+    def fill(self, value):
+        """Takes a file's object."""
+        rows = value["files"]
+        self.files = {str(path): (stamped, frozenset(words), bool(makes)) for path, stamped, words, makes in rows}
+        names = [(rows[file][0], str(name)) for file, name in value["names"]]
+        self.units = {str(key): [names[number] for number in numbers] for key, numbers in value["units"].items()}
+        self.absent = {os.path.join(folder, name) for folder, names in value["absent"].items() for name in names}
+        self.lines = [str(line) for line in value["lines"]]
+
+    def write(self, path, setting):
+        """Writes the file; without it nothing is lost but time."""
+        places = {file: number for number, file in enumerate(self.files)}
+        pairs = {pair: number for number, pair in enumerate(dict.fromkeys(pair for pairs in self.units.values() for pair in pairs))}
+        absent = {}
+        for one in sorted(self.absent):
+            absent.setdefault(os.path.dirname(one), []).append(os.path.basename(one))
+        value = {"setting": setting, "lines": self.lines, "absent": absent,
+                 "files": [[file, stamped, sorted(words), makes] for file, (stamped, words, makes) in self.files.items()],
+                 "names": [[places[file], name] for file, name in pairs],
+                 "units": {key: [pairs[pair] for pair in own] for key, own in self.units.items()}}
+        try:
+            with written(path) as file:
+                file.write(compact(value))
+        except OSError as error:
+            say("%s: %s, so the next run runs each unit" % (path, error.strerror))
+
+    def changes(self):
+        """Returns the files whose opening may have another effect now, and the last parts of paths that came or went; forgets what went."""
+        changed = {path for path, (stamped, _, _) in self.files.items() if not is_same(path, stamped)}
+        gone = {path for path in changed if not os.path.isfile(path)}
+        come = self.come()
+        words = {os.path.basename(path) for path in gone | come}
+        naming = {path for path, (_, named, makes) in self.files.items() if makes or not named.isdisjoint(words)} if words else set()
+        self.absent = (self.absent - come) | gone
+        for path in changed:
+            self.files[path] = (stamp(path), frozenset(), False)
+        for path in gone:
+            del self.files[path]
+        return changed | naming, words
+
+    def come(self):
+        """Returns the paths that weren't there and are."""
+        folders = {}
+        for path in self.absent:
+            folders.setdefault(os.path.dirname(path), set()).add(os.path.basename(path))
+        return {path for folder, names in folders.items() for name in names & listing(folder) if os.path.isfile(path := os.path.join(folder, name))}
+
+    def learn(self, files):
+        """Takes what was read and looked for."""
+        for path, lines in files.lines.items():
+            words = [*(name for form, name in lines if form != COMPUTED), *files.settled.get(path, ())]
+            self.files[path] = (files.stamps[path], frozenset(map(os.path.basename, words)), any(form == COMPUTED for form, _ in lines))
+        self.absent.update(path for path, there in files.there.items() if not there and is_text(path))
+
+
+def listing(folder):
+    """Returns the names in a directory."""
+    try:
+        return set(os.listdir(folder))
+    except OSError:
+        return set()
+
+
+def setting_of(asked, program):
+    """Returns all that decides of every unit's result: the form of the file, the program, and the options."""
+    found = os.stat(program)
+    return [FORM, program, found.st_size, found.st_mtime_ns, asked.profile, asked.system, asked.define]
+
+
+def key_of(command, builder, answer):
+    """Returns the hash of all in a command that decides of its result, but for the contents of files."""
+    known = None if answer is None else answer.key
+    parts = [command.directory, command.file, command.spelled, builder.search(command), list(command.definitions.items()),
+             sorted(command.named), command.includes, command.trigraphs, known]
+    return hashed(repr(parts).encode("utf-8", "surrogatepass"))
