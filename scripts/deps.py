@@ -23,9 +23,8 @@ class Result:
     def target(self):
         """Returns the object's name, as the command spells it."""
         command = self.command
-        if command.target not in (None, "", "-"):
-            return command.target
-        return command.output or depfile.object_of(os.path.basename(command.file))
+        names = [name for name in (command.target, command.output) if name not in (None, "", "-")]
+        return names[0] if names else depfile.object_of(os.path.basename(command.file))
 
     def rule(self, phony):
         """Returns the text of the dependency file."""
@@ -200,9 +199,8 @@ def run_changed(work):
     path = os.path.join(asked.into or Places(asked.build, None).base, (os.path.basename(asked.build) if asked.build != "-" else "commands") + ".seen")
     memory = Memory() if asked.anew or asked.list else Memory.read(path, setting)
     work.begin()
-    keys = [key_of(command, work.builder, work.compilers.answer(command)) for command in work.commands]
-    changed, words = memory.changes()
-    kept = {key: pairs for key, pairs in memory.units.items() if changed.isdisjoint(file for file, _ in pairs)}
+    keys = [key_of(command, work.builder, work.compilers) for command in work.commands]
+    words, kept = memory.forget(), memory.units
     fresh = [command for command, key in zip(work.commands, keys)
              if key not in kept or not words.isdisjoint(map(os.path.basename, command.includes))]
     if fresh and memory.lines:

@@ -1,14 +1,14 @@
 """Remembers what a run of `build.py deps` saw, so that the next runs only the units that may have changed.
 
 The file has the names that each unit's rule has, the size and time of each file, and the paths that were looked for in vain.  A unit is
-run again if its command, its compiler's answer or a file that it opened changed, or if a file came or went that an include line of these
-names by the last part of its path.  A unit with a fault is run always."""
+run again if its command, its compiler's answer or a file that it opened changed, or if a file came or went whose last part is that of a
+name in an include line of these, or of a file that the unit opened by a name that a macro makes.  A unit with a fault is run always."""
 import json
 import os
 
-from commands import is_text
+from commands import is_text, place
 from common import compact, say, written
-from files import COMPUTED, hashed, is_same, stamp
+from files import COMPUTED, hashed, is_same
 
 FORM = "cppunits seen 1"
 
@@ -21,7 +21,7 @@ class Memory:
         self.files = {}
         # by a unit's key: pairs of a path and a name
         self.units = {}
-        self.absent, self.lines = set(), []
+        self.absent, self.lines, self.whole = set(), [], None
 
     @classmethod
     def read(cls, path, setting):
@@ -29,9 +29,13 @@ class Memory:
         memory = cls()
         try:
             with open(path, "rb") as file:
-                value = json.loads(file.read().decode())
+                mark, data = file.readline(), file.read()
+            if mark != mark_of(data):
+                raise ValueError
+            value = json.loads(data.decode())
             if value["setting"] == setting:
                 memory.fill(value)
+                memory.whole = data
         except FileNotFoundError:
             pass
         except (OSError, ValueError, KeyError, TypeError, IndexError, AttributeError, RecursionError):
@@ -42,11 +46,11 @@ class Memory:
     def fill(self, value):
         """Takes a file's object."""
         rows = value["files"]
-        self.files = {str(path): (stamped, frozenset(words), bool(makes)) for path, stamped, words, makes in rows}
-        names = [(rows[file][0], str(name)) for file, name in value["names"]]
-        self.units = {str(key): [names[number] for number in numbers] for key, numbers in value["units"].items()}
+        self.files = {path: (stamped, frozenset(words), makes) for path, stamped, words, makes in rows}
+        names = [(rows[file][0], name) for file, name in value["names"]]
+        self.units = {key: [names[number] for number in numbers] for key, numbers in value["units"].items()}
         self.absent = {os.path.join(folder, name) for folder, names in value["absent"].items() for name in names}
-        self.lines = [str(line) for line in value["lines"]]
+        self.lines = value["lines"]
 
     def write(self, path, setting):
         """Writes the file; without it nothing is lost but time."""
@@ -59,25 +63,29 @@ class Memory:
                  "files": [[file, stamped, sorted(words), makes] for file, (stamped, words, makes) in self.files.items()],
                  "names": [[places[file], name] for file, name in pairs],
                  "units": {key: [pairs[pair] for pair in own] for key, own in self.units.items()}}
+        data = compact(value)
+        if data == self.whole:
+            return
         try:
             with written(path) as file:
-                file.write(compact(value))
+                file.writelines([mark_of(data), data])
         except OSError as error:
             say("%s: %s, so the next run runs each unit" % (path, error.strerror))
 
-    def changes(self):
-        """Returns the files whose opening may have another effect now, and the last parts of paths that came or went; forgets what went."""
+    def forget(self):
+        """Drops the units that may have another result by now, and returns the last parts of the paths that came or went."""
         changed = {path for path, (stamped, _, _) in self.files.items() if not is_same(path, stamped)}
         gone = {path for path in changed if not os.path.isfile(path)}
         come = self.come()
         words = {os.path.basename(path) for path in gone | come}
-        naming = {path for path, (_, named, makes) in self.files.items() if makes or not named.isdisjoint(words)} if words else set()
+        changed |= {path for path, (_, named, _) in self.files.items() if not named.isdisjoint(words)}
+        makers = {path for path, (_, _, makes) in self.files.items() if makes}
+        if changed or words:
+            self.units = {key: pairs for key, pairs in self.units.items() if is_kept({path for path, _ in pairs}, changed, words, makers)}
         self.absent = (self.absent - come) | gone
-        for path in changed:
-            self.files[path] = (stamp(path), frozenset(), False)
         for path in gone:
             del self.files[path]
-        return changed | naming, words
+        return words
 
     def come(self):
         """Returns the paths that weren't there and are."""
@@ -94,6 +102,16 @@ class Memory:
         self.absent.update(path for path, there in files.there.items() if not there and is_text(path))
 
 
+def is_kept(paths, changed, words, makers):
+    """Returns whether a unit that opened these files has the same result: none changed, and none that a macro names may be another."""
+    return changed.isdisjoint(paths) and (makers.isdisjoint(paths) or words.isdisjoint(map(os.path.basename, paths)))
+
+
+def mark_of(data):
+    """Returns the first line of a file, which shows that the rest is whole."""
+    return b"%s %s\n" % (FORM.encode(), hashed(data).encode())
+
+
 def listing(folder):
     """Returns the names in a directory."""
     try:
@@ -103,14 +121,14 @@ def listing(folder):
 
 
 def setting_of(asked, program):
-    """Returns all that decides of every unit's result: the form of the file, the program, and the options."""
+    """Returns all that decides of every unit's result: the program, and the options."""
     found = os.stat(program)
-    return [FORM, program, found.st_size, found.st_mtime_ns, asked.profile, asked.system, asked.define]
+    return [program, found.st_size, found.st_mtime_ns, asked.profile, asked.system, asked.define]
 
 
-def key_of(command, builder, answer):
+def key_of(command, builder, compilers):
     """Returns the hash of all in a command that decides of its result, but for the contents of files."""
-    known = None if answer is None else answer.key
+    answer, (program, options) = compilers.answer(command), compilers.key(command)
     parts = [command.directory, command.file, command.spelled, builder.search(command), list(command.definitions.items()),
-             sorted(command.named), command.includes, command.trigraphs, known]
+             sorted(command.named), command.includes, command.trigraphs, program, program and place(program), options, answer and answer.key]
     return hashed(repr(parts).encode("utf-8", "surrogatepass"))
