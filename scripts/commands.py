@@ -88,7 +88,7 @@ class Command:
 
     def words_of(self, entry):
         """Returns the words after the compiler's name."""
-        words = list(entry["arguments"]) if "arguments" in entry else split_command(entry["command"])
+        words = list(entry["arguments"]) if entry.get("arguments") is not None else split_command(entry["command"])
         at_word = compiler_at(words)
         self.compiler = words[at_word] if at_word < len(words) else ""
         return list(self.with_responses(words[at_word + 1:], 0))
@@ -327,13 +327,17 @@ def commands(path, report):
 
 def taken(path, number, entry, report):
     """Returns the command of an entry, or None if it is left out, which is reported."""
+    wrong = wrong_member(entry)
+    if wrong is not None:
+        raise Refused("%s, entry %d: no `directory`, `file` and `command` or `arguments` ([%d]%s)" % (path, number, number, wrong))
     try:
         command = Command(entry, report)
     except LeftOut as reason:
         report.missing(at(os.path.abspath(entry["directory"]), entry["file"]), "a response file is missing", reason)
         return None
-    except (KeyError, TypeError, AttributeError, ValueError) as error:
-        raise Refused("%s, entry %d: no `directory`, `file` and `command` or `arguments` (%s)" % (path, number, error)) from None
+    except ValueError as error:
+        raise Refused("%s, entry %d: no `directory`, `file` and `command` or `arguments` ([%d].%s: %s)"
+                      % (path, number, number, "arguments" if "arguments" in entry else "command", error)) from None
     if command.language != "c":
         report.left_out(command.file, "no C file")
     elif not is_folder(command.directory):
@@ -343,6 +347,24 @@ def taken(path, number, entry, report):
     else:
         return command
     return None
+
+
+def wrong_member(entry):
+    """Returns the path of the first member of an entry that has another form, and what is wrong; None if there is none."""
+    if not isinstance(entry, dict):
+        return " is no object"
+    for name in "directory", "file":
+        if name not in entry:
+            return ".%s is missing" % name
+    words = entry.get("arguments")
+    if words is None and "command" not in entry:
+        return ".command is missing"
+    if words is not None and not isinstance(words, list):
+        return ".arguments is no array"
+    texts = [(".directory", entry["directory"]), (".file", entry["file"])]
+    texts += [(".command", entry["command"])] if words is None else [(".arguments[%d]" % at_word, word) for at_word, word in enumerate(words)]
+    texts += [(".output", entry["output"])] if entry.get("output") is not None else []
+    return next((name + " is no text" for name, value in texts if not isinstance(value, str)), None)
 
 
 def is_text(word):

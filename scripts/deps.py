@@ -123,6 +123,8 @@ def is_rules(data):
 def settle(path, text, read):
     """Writes a dependency file unless it has this text, or removes it if the text is None; refuses to replace a file of another kind."""
     there = os.path.isfile(path)
+    if os.path.exists(path) and not there:
+        raise Refused("%s is there and is no file" % path)
     if there:
         with open(path, "rb") as file:
             data = file.read()

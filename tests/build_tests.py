@@ -491,6 +491,16 @@ class Runs(Builds):
             write(self.top, {"c.json": text})
             done = run(self.words("faults", "c.json"), cwd=self.top, env=self.environment())
             self.assertEqual((done.returncode, done.stderr.count(b"\n")), (status, 1), text)
+        for entry, wrong in ((1, " is no object"), ({}, ".directory is missing"), ({"directory": ".", "file": "a"}, ".command is missing"),
+                             ({"directory": ".", "file": 1, "command": ""}, ".file is no text"), ({"directory": "."}, ".file is missing"),
+                             ({"directory": ".", "file": "a", "arguments": {}}, ".arguments is no array"),
+                             ({"directory": ".", "file": "a", "arguments": ["gcc", None]}, ".arguments[1] is no text"),
+                             ({"directory": ".", "file": "a.c", "command": "gcc '"}, ".command: No closing quotation"),
+                             ({"directory": ".", "file": "a", "command": "gcc", "output": []}, ".output is no text")):
+            write(self.top, {"c.json": json.dumps([{"directory": ".", "file": "a.c", "command": "gcc -c a.c"}, entry])})
+            done = run(self.words("deps", "c.json"), cwd=self.top, env=self.environment())
+            line = "build.py: c.json, entry 1: no `directory`, `file` and `command` or `arguments` ([1]%s)\n" % wrong
+            self.assertEqual((done.returncode, done.stderr.decode(), os.path.exists(self.path("a.o.d"))), (3, line, False))
         self.assertEqual(run(self.words("faults", "none.json"), cwd=self.top).returncode, 5)
         for words in (["--none"], [], ["dump", "--workers", "0"], ["deps", "--workers", "65"], ["deps", "--seconds", "x"], ["--seconds", "x", "deps"],
                       ["--phony", "dump"], ["c.json", "deps"], ["--workers"]):

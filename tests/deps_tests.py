@@ -159,6 +159,14 @@ class Places(Dependencies):
         self.build("deps", ["gcc -o /dev/null -c a.c"], "--into", "d")
         self.assertEqual(self.read("d/dev/null.d"), "/dev/null: \\\n  a.c \\\n  h.h\n")
 
+    def test_names_of_what_is_no_file(self):
+        """Wants a pipe and a directory to stay, and no wait for a reader."""
+        os.mkfifo(self.path("pipe"))
+        for name in "pipe", "sys":
+            messages = self.build("deps", [["gcc", "-MF", name, "-c", "a.c"], ("gcc -c b.c", "b.c")], status=1, timeout=60)[1]
+            self.assertEqual(messages[0], "build.py: %s: %s is there and is no file" % (self.path("a.c"), self.path(name)))
+            self.assertEqual(self.found(), ["b.o.d", "pipe"])
+
     def test_files_that_can_not_be_written(self):
         """Wants status 5, the files of the others, and none half written."""
         for name in "h.h/x.d", "x" * 300:
