@@ -1,5 +1,6 @@
 #!/usr/bin/env python3
 """Makes dependency files for make and ninja from the output of `cppunits deps`, one for each unit."""
+import functools
 import os
 import re
 
@@ -21,6 +22,7 @@ A unit with a fault has its dependencies only up to the fault, so its file isn't
 UNWRITABLE = re.compile(rb"[\x00-\x1f\x7f*;<>|^`]|\\$|\\ ")
 
 
+@functools.lru_cache(maxsize=65536)
 def escaped(name):
     """Returns a name escaped for a rule.  A backslash elsewhere needs no escape."""
     if UNWRITABLE.search(name):

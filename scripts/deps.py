@@ -195,26 +195,30 @@ def deps(work):
     FORMS[work.asked.form](work, results)
 
 
+def seen_path(asked):
+    """Returns the path of the file of what was seen: with the dependency files below --into, otherwise with the commands."""
+    name = "commands" if asked.build == "-" else os.path.basename(asked.build)
+    return os.path.join(asked.into or Places(asked.build, None).base, name + ".seen")
+
+
 def run_changed(work):
     """Runs the units that changed since the last run, and returns the results of all."""
-    asked, setting = work.asked, setting_of(work.asked, work.program.path)
-    path = os.path.join(asked.into or Places(asked.build, None).base, (os.path.basename(asked.build) if asked.build != "-" else "commands") + ".seen")
-    memory = Memory() if asked.anew or asked.list else Memory.read(path, setting)
+    path, setting = seen_path(work.asked), setting_of(work.asked, work.program.path)
+    memory = Memory() if work.asked.anew or work.asked.list else Memory.read(path, setting)
     work.begin()
-    keys = [key_of(command, work.builder, work.compilers) for command in work.commands]
-    words, kept = memory.forget(), memory.units
-    fresh = [command for command, key in zip(work.commands, keys)
-             if key not in kept or not words.isdisjoint(map(os.path.basename, command.includes))]
-    if fresh and memory.lines:
+    pairs = [(command, key_of(command, work.builder, work.compilers)) for command in work.commands]
+    words = memory.forget()
+    kept = {id(command): Result(command, *zip(*memory.units[key]), None) for command, key in pairs
+            if key in memory.units and words.isdisjoint(map(os.path.basename, command.includes))}
+    if memory.lines and len(kept) < len(pairs):
         # which unit a line is about isn't known
-        memory, fresh = Memory(), work.commands
-    results = {id(command): Result(command, [file for file, _ in kept[key]], [name for _, name in kept[key]], None)
-               for command, key in zip(work.commands, keys) if key in kept}
-    results.update((id(result.command), result) for result in run_fresh(work, fresh, memory))
-    memory.units = {key: list(zip(result.paths, result.names)) for command, key in zip(work.commands, keys)
-                    if (result := results.get(id(command))) is not None and result.fault is None}
+        memory, kept = Memory(), {}
+    fresh = [command for command in work.commands if id(command) not in kept]
+    results = {**kept, **{id(result.command): result for result in run_fresh(work, fresh, memory)}}
+    memory.take({key: list(zip(result.paths, result.names)) for command, key in pairs
+                 if (result := results.get(id(command))) is not None and result.fault is None})
     memory.write(path, setting)
-    if len(fresh) < len(work.commands):
+    if kept:
         work.anew = len(fresh)
     return [results[id(command)] for command in work.commands if id(command) in results]
 

@@ -21,7 +21,10 @@ class Memory:
         self.files = {}
         # by a unit's key: pairs of a path and a name
         self.units = {}
-        self.absent, self.lines, self.whole = set(), [], None
+        # by directory: the last parts of paths that weren't there
+        self.absent = {}
+        # what was said of the list; and whether the file is as this is
+        self.lines, self.written = [], False
 
     @classmethod
     def read(cls, path, setting):
@@ -35,7 +38,6 @@ class Memory:
             value = json.loads(data.decode())
             if value["setting"] == setting:
                 memory.fill(value)
-                memory.whole = data
         except FileNotFoundError:
             pass
         except (OSError, ValueError, KeyError, TypeError, IndexError, AttributeError, RecursionError):
@@ -49,23 +51,20 @@ class Memory:
         self.files = {path: (stamped, frozenset(words), makes) for path, stamped, words, makes in rows}
         names = [(rows[file][0], name) for file, name in value["names"]]
         self.units = {key: [names[number] for number in numbers] for key, numbers in value["units"].items()}
-        self.absent = {os.path.join(folder, name) for folder, names in value["absent"].items() for name in names}
-        self.lines = value["lines"]
+        self.absent = {folder: set(names) for folder, names in value["absent"].items()}
+        self.lines, self.written = value["lines"], True
 
     def write(self, path, setting):
-        """Writes the file; without it nothing is lost but time."""
+        """Writes the file, unless it is as it was; without it nothing is lost but time."""
+        if self.written:
+            return
         places = {file: number for number, file in enumerate(self.files)}
         pairs = {pair: number for number, pair in enumerate(dict.fromkeys(pair for pairs in self.units.values() for pair in pairs))}
-        absent = {}
-        for one in sorted(self.absent):
-            absent.setdefault(os.path.dirname(one), []).append(os.path.basename(one))
-        value = {"setting": setting, "lines": self.lines, "absent": absent,
+        value = {"setting": setting, "lines": self.lines, "absent": {folder: sorted(names) for folder, names in self.absent.items()},
                  "files": [[file, stamped, sorted(words), makes] for file, (stamped, words, makes) in self.files.items()],
                  "names": [[places[file], name] for file, name in pairs],
                  "units": {key: [pairs[pair] for pair in own] for key, own in self.units.items()}}
         data = compact(value)
-        if data == self.whole:
-            return
         try:
             with written(path) as file:
                 file.writelines([mark_of(data), data])
@@ -82,24 +81,38 @@ class Memory:
         makers = {path for path, (_, _, makes) in self.files.items() if makes}
         if changed or words:
             self.units = {key: pairs for key, pairs in self.units.items() if is_kept({path for path, _ in pairs}, changed, words, makers)}
-        self.absent = (self.absent - come) | gone
+        for path in come:
+            self.absent[os.path.dirname(path)].discard(os.path.basename(path))
         for path in gone:
+            self.lack(path)
             del self.files[path]
+        self.written = self.written and not (changed or words)
         return words
+
+    def lack(self, path):
+        """Takes a path that isn't there."""
+        folder, name = os.path.split(path)
+        self.absent.setdefault(folder, set()).add(name)
 
     def come(self):
         """Returns the paths that weren't there and are."""
-        folders = {}
-        for path in self.absent:
-            folders.setdefault(os.path.dirname(path), set()).add(os.path.basename(path))
-        return {path for folder, names in folders.items() for name in names & listing(folder) if os.path.isfile(path := os.path.join(folder, name))}
+        found = [os.path.join(folder, name) for folder, names in self.absent.items() for name in names & listing(folder)]
+        return {path for path in found if os.path.isfile(path)}
+
+    def take(self, units):
+        """Takes all units of a run."""
+        self.written = self.written and units.keys() == self.units.keys()
+        self.units = units
 
     def learn(self, files):
         """Takes what was read and looked for."""
+        self.written = False
         for path, lines in files.lines.items():
             words = [*(name for form, name in lines if form != COMPUTED), *files.settled.get(path, ())]
             self.files[path] = (files.stamps[path], frozenset(map(os.path.basename, words)), any(form == COMPUTED for form, _ in lines))
-        self.absent.update(path for path, there in files.there.items() if not there and is_text(path))
+        for path, there in files.there.items():
+            if not there and is_text(path):
+                self.lack(path)
 
 
 def is_kept(paths, changed, words, makers):

@@ -163,7 +163,7 @@ class Places(Dependencies):
         """Wants a pipe and a directory to stay, and no wait for a reader."""
         os.mkfifo(self.path("pipe"))
         for name in "pipe", "sys":
-            messages = self.build("deps", [["gcc", "-MF", name, "-c", "a.c"], ("gcc -c b.c", "b.c")], status=1, timeout=60)[1]
+            messages = self.build("deps", [["gcc", "-MF", name, "-c", "a.c"], ("gcc -c b.c", "b.c")], status=1, timeout=300)[1]
             self.assertEqual(messages[0], "build.py: %s: %s is there and is no file" % (self.path("a.c"), self.path(name)))
             self.assertEqual(self.found(), ["b.o.d", "pipe"])
 

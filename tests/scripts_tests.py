@@ -55,6 +55,12 @@ class All(Folder):
             self.assertEqual(found, (status, 1, b""), (name, words, done.stderr))
             self.assertTrue(done.stderr.startswith(name.encode() + b": "), done.stderr)
 
+    def test_options_of_a_task_before_its_name(self):
+        write(self.top, {"list.json": listed({"a.c": ""})})
+        for number, words in enumerate((["--into", "0", "cut", "2"], ["--into=1", "cut", "2"], ["cut", "--into", "2", "2"])):
+            self.assertEqual(script("shards.py", *words, "list.json", cwd=self.top).returncode, 0)
+            self.assertEqual(sorted(os.listdir(self.path(str(number)))), ["000.json", "001.json"])
+
     def test_no_file_is_left_half_written(self):
         write(self.top, {"whole": "unit 0 a.c\nok\n", "cut": "unit 0 a.c\nok\nunit 1 b.c\n", "joined": "as it was"})
         done = script("shards.py", "join", "--output", "joined", "whole", "cut", cwd=self.top)
