@@ -6,7 +6,6 @@
 import json
 import os
 import re
-import shlex
 import shutil
 import stat
 import subprocess
@@ -27,6 +26,18 @@ def listed(files, units=None):
 def read(*parts):
     with open(os.path.join(*parts), "rb") as file:
         return file.read()
+
+
+def marked(output, number=0, count=1, digest="0" * 64):
+    """Returns an output with the mark of a part at its end."""
+    mark = "unit %d a.c\nfault 11 65535:1:1 cppunits_part_%d_of_%d_in_%s\n" % (output.count(b"unit "), number, count, digest)
+    return output + mark.encode()
+
+
+def form(language, begin):
+    """Returns the block of docs/BUILDS.md that begins so."""
+    blocks = re.findall(r"^```%s\n(.*?)^```$" % language, read(TOP, "docs", "BUILDS.md").decode(), re.M | re.S)
+    return next(block for block in blocks if block.startswith(begin))
 
 
 def tokens(dump):
@@ -62,9 +73,12 @@ class All(Folder):
             self.assertEqual(sorted(os.listdir(self.path(str(number)))), ["000.json", "001.json"])
 
     def test_no_file_is_left_half_written(self):
-        write(self.top, {"whole": "unit 0 a.c\nok\n", "cut": "unit 0 a.c\nok\nunit 1 b.c\n", "joined": "as it was"})
+        whole = b"unit 0 a.c\nok\n"
+        write(self.top, {"whole": marked(whole, 0, 2), "cut": whole + b"unit 1 b.c\n", "joined": "as it was"})
         done = script("shards.py", "join", "--output", "joined", "whole", "cut", cwd=self.top)
         self.assertEqual((done.returncode, read(self.top, "joined")), (3, b"as it was"))
+        done = script("shards.py", "join", "whole", "cut", cwd=self.top)
+        self.assertEqual((done.returncode, done.stdout), (3, b""))
         self.assertEqual(sorted(os.listdir(self.top)), ["cut", "joined", "whole"])
 
     def test_what_is_no_file_is_written_to(self):
@@ -72,13 +86,13 @@ class All(Folder):
         write(self.top, {"kept": "old\n"})
         os.symlink("kept", self.path("link"))
         for name, found in ("link", b"kept"), ("new", None):
-            self.assertEqual(script("shards.py", "join", "--output", name, "-", input=dump, cwd=self.top).returncode, 0)
+            self.assertEqual(script("shards.py", "join", "--output", name, "-", input=marked(dump), cwd=self.top).returncode, 0)
             self.assertEqual(os.readlink(os.fsencode(self.path(name))) if found else None, found)
             self.assertEqual(read(self.top, name), dump)
         self.assertEqual(read(self.top, "kept"), dump)
         os.mkfifo(self.path("pipe"))
         with subprocess.Popen(["cat", "pipe"], cwd=self.top, stdout=subprocess.PIPE) as reader:
-            self.assertEqual(script("shards.py", "join", "--output", "pipe", "-", input=dump, cwd=self.top).returncode, 0)
+            self.assertEqual(script("shards.py", "join", "--output", "pipe", "-", input=marked(dump), cwd=self.top).returncode, 0)
             self.assertEqual(reader.stdout.read(), dump)
         self.assertTrue(stat.S_ISFIFO(os.stat(self.path("pipe")).st_mode))
 
@@ -86,7 +100,8 @@ class All(Folder):
         if not os.path.exists("/dev/full"):
             raise unittest.SkipTest("this system has no /dev/full")
         write(self.top, {"dump": "unit 0 a.c\ntok 0:1:1 0:1:1 i+ a\nok\n"})
-        for words in (("text.py", "dump"), ("shards.py", "join", "dump")):
+        write(self.top, {"part": marked(read(self.top, "dump"))})
+        for words in (("text.py", "dump"), ("shards.py", "join", "part")):
             with open("/dev/full", "wb") as full:
                 command = [sys.executable, os.path.join(TOP, "scripts", words[0]), *words[1:]]
                 done = subprocess.run(command, cwd=self.top, stdout=full, stderr=subprocess.PIPE)
@@ -278,8 +293,8 @@ class Shards(Folder):
         files = {"u%d.c" % n: '#include "h.h"\nint u%d = X;\n%s' % (n, last.get(n, "")) for n in range(count)}
         files["h.h"] = "#ifndef H\n#define H\nint h = X;\n#endif\n"
         units = [{"file": "u%d.c" % n, "define": ["X %d" % n]} for n in range(count)]
-        whole = json.loads(listed(files, units)) if units else dict(LIST, files=[], units=[])
-        write(self.top, {"list.json": json.dumps({**whole, **setting})})
+        whole = json.loads(listed(files, units))
+        write(self.top, {"list.json": json.dumps({**whole, "units": units, **setting})})
         done = script("shards.py", "cut", str(parts), "list.json", cwd=self.top)
         self.assertEqual((done.returncode, done.stdout, done.stderr), (0, b"", b""))
         names = sorted(os.listdir(self.path("shards")))
@@ -296,11 +311,29 @@ class Shards(Folder):
     def test_four_jobs_of_gnu_parallel(self):
         missed("parallel")
         parts = self.make(23, 4, fault=True)
-        command = "%s --block 1 dump < {} > {.}.out" % shlex.quote(program())
-        done = run(["parallel", "--jobs", "4", command, ":::", *parts], cwd=self.top)
-        # the status of parallel is the number of jobs that failed
-        self.assertEqual(done.returncode, 1, done.stderr)
+        done = self.in_shell(form("sh", "parallel "))
+        self.assertEqual(done.returncode, 0, done.stderr)
         self.compare([part.replace(".json", ".out") for part in parts], 1)
+        write(self.top, {parts[1]: "{"})
+        # the status of parallel is the number of jobs that failed
+        self.assertEqual(self.in_shell(form("sh", "parallel ")).returncode, 1)
+
+    def in_shell(self, command):
+        """Runs a command with cppunits and the scripts on PATH."""
+        if not os.path.exists(self.path("tools")):
+            os.mkdir(self.path("tools"))
+            os.symlink(program(), self.path("tools/cppunits"))
+        path = os.pathsep.join((self.path("tools"), os.path.join(TOP, "scripts"), os.environ["PATH"]))
+        return run(["sh", "-c", command], cwd=self.top, env=dict(os.environ, PATH=path))
+
+    def test_the_rules_of_ninja(self):
+        missed("ninja")
+        self.make(9, 2, fault=True)
+        write(self.top, {"build.ninja": form("ninja", "rule part")})
+        done = self.in_shell("ninja")
+        self.assertEqual(done.returncode, 0, done.stdout)
+        self.assertEqual(read(self.top, "deps"), cppunits("deps", input=read(self.top, "list.json")).stdout)
+        self.assertIn(b"no work to do", self.in_shell("ninja").stdout)
 
     def test_four_jobs_at_once(self):
         parts = self.make(22, 4)
@@ -308,7 +341,8 @@ class Shards(Folder):
         for part in parts:
             with open(self.path(part), "rb") as source, open(self.path(part + ".out"), "wb") as target:
                 jobs.append(subprocess.Popen([program(), "dump"], stdin=source, stdout=target))
-        self.assertEqual([job.wait() for job in jobs], [0, 0, 0, 0])
+        # each part has its mark, which is a fault
+        self.assertEqual([job.wait() for job in jobs], [1, 1, 1, 1])
         self.compare([part + ".out" for part in parts], 0)
 
     def test_more_parts_than_units(self):
@@ -342,15 +376,100 @@ class Shards(Folder):
         self.assertEqual(read(self.top, "shards", "000.json"), before)
         self.assertEqual(script("shards.py", "cut", "4", "list.json", cwd=self.top).returncode, 0)
 
-    def test_a_part_that_is_left_out(self):
-        outputs = []
-        for part in self.make(6, 3):
-            write(self.top, {part + ".out": cppunits("dump", input=read(self.top, part)).stdout})
-            outputs.append(part + ".out")
-        for wrong in (outputs[:2], outputs[1:], outputs[::-1], outputs + outputs[:1]):
-            done = script("shards.py", "join", "--output", "joined", "--list", "list.json", *wrong, cwd=self.top)
-            self.assertEqual((done.returncode, done.stderr.count(b"\n")), (3, 1), done.stderr)
+    def outputs(self, *words, **setting):
+        """Returns the outputs of the parts of a list."""
+        names = []
+        for part in self.make(*words, **setting):
+            names.append(part.replace(".json", ".out"))
+            write(self.top, {names[-1]: cppunits("dump", input=read(self.top, part)).stdout})
+        return names
+
+    def refused(self, *words):
+        """Returns why a join is refused; nothing may be written."""
+        for more in ("--output", "joined"), ():
+            done = script("shards.py", "join", *more, *words, cwd=self.top)
+            self.assertEqual((done.returncode, done.stdout, done.stderr.count(b"\n")), (3, b"", 1), done.stderr)
             self.assertFalse(os.path.exists(self.path("joined")))
+        return done.stderr.decode()[len("shards.py: "):-1]
+
+    def test_a_part_that_is_left_out(self):
+        outputs = self.outputs(6, 3)
+        for wrong, reason in ((outputs[:2], "part 2 of 3 is missing"),
+                              (outputs[1:], "shards/001.out: it is part 1, and part 0 is wanted here"),
+                              (outputs[::-1], "shards/002.out: it is part 2, and part 0 is wanted here"),
+                              (outputs + outputs[:1], "shards/000.out: it is part 0, and part 3 is wanted here")):
+            for words in (), ("--list", "list.json"):
+                self.assertEqual(self.refused(*words, *wrong), reason)
+
+    def test_a_part_of_another_list(self):
+        outputs = self.outputs(6, 3)
+        write(self.top, {"other.json": json.dumps(dict(json.loads(read(self.top, "list.json")), time="08:05:04"))})
+        self.assertEqual(self.refused("--list", "other.json", *outputs), "shards/000.out: it is a part of another list")
+        script("shards.py", "cut", "3", "other.json", cwd=self.top)
+        write(self.top, {outputs[1]: cppunits("dump", input=read(self.top, "shards/001.json")).stdout})
+        self.assertEqual(self.refused(*outputs), "shards/001.out: it is a part of another list")
+        script("shards.py", "cut", "2", "--into", "halves", "list.json", cwd=self.top)
+        write(self.top, {outputs[1]: cppunits("dump", input=read(self.top, "halves/001.json")).stdout})
+        self.assertEqual(self.refused(*outputs), "shards/001.out: it is one of 2 parts, and the part before it one of 3")
+
+    def test_a_part_without_its_end(self):
+        outputs = self.outputs(6, 2)
+        whole = read(self.top, outputs[1])
+        ends = [found.start() for found in re.finditer(b"^unit ", whole, re.M)] + [0, len(whole) - 20, len(whole) - 1]
+        for end in ends:
+            write(self.top, {outputs[1]: whole[:end]})
+            self.assertRegex(self.refused(*outputs), r"^shards/001.out(: the end is missing: its last unit isn't the mark|, line \d+: the output is cut off)")
+
+    def test_bytes_that_no_output_has(self):
+        outputs = self.outputs(6, 2)
+        whole = read(self.top, outputs[1])
+        good, at = b"tok 1:2:5 1:2:5 i+ u3\n", whole.index(b"tok ")
+        before, after = whole[:at], whole[at:]
+        for line in (b"tok 1:2:5 1:2:5 i+ u%s\n" % (b"\0" * 10000), good.replace(b"u3", b""), good.replace(b"u3", b"%41"), good.replace(b"u3", b"\xe9"),
+                     good.replace(b"u3", b"%e9"), good.replace(b"u3", b"50%"), good.replace(b"i+", b"h+"), good.replace(b"1:2:5", b"1:2"),
+                     good.replace(b"tok", b"tok "), b"prag 1:2\n", b"tok \n", b"dep 1\n", b"dep 1 a.c\n", b"fault 34\n", b"ok \n", b"\n",
+                     good.replace(b"u3", b"u3\r")):
+            write(self.top, {outputs[1]: before + line + after})
+            self.assertRegex(self.refused(*outputs), r"^shards/001.out(, line \d+: no line|: unit \d has a line) that cppunits (doesn't print|prints)", line)
+        write(self.top, {outputs[1]: b"\0" * 100000})
+        self.assertEqual(self.refused(*outputs), "shards/001.out, line 1: the output is cut off")
+        write(self.top, {outputs[1]: before + good.replace(b"u3", b"%E9%25%7F%00~ ") + after})
+        self.assertEqual(script("shards.py", "join", *outputs, cwd=self.top).returncode, 0)
+
+    def test_a_part_that_is_cut_again(self):
+        outputs = self.outputs(6, 2)
+        whole = read(self.top, outputs[1])
+        for count in 1, 3:
+            done = script("shards.py", "cut", str(count), "--into", "again", "shards/001.json", cwd=self.top)
+            self.assertEqual((done.returncode, done.stderr), (0, b""))
+            again = ["again/%03d" % number for number in range(count)]
+            for part in again:
+                write(self.top, {part + ".out": cppunits("dump", input=read(self.top, part + ".json")).stdout})
+            done = script("shards.py", "join", "--list", "shards/001.json", *(part + ".out" for part in again), cwd=self.top)
+            self.assertEqual((done.stdout, done.returncode), (whole, 1))
+
+    def test_no_file_is_opened_for_a_mark(self):
+        """Runs parts in each profile, without a budget, over files that aren't there."""
+        for profile in "c11", "later", "gnu":
+            parts = self.make(2, 1, profile=profile, budget=0)
+            names = json.loads(read(self.top, parts[0]))
+            names["files"] = [{"name": row["name"]} for row in names["files"]]
+            done = cppunits("--root", self.path("none"), "deps", input=json.dumps(names).encode())
+            self.assertRegex(done.stdout, rb"\nunit 2 u0.c\nfault 11 65535:1:1 cppunits_part_0_of_1_in_[0-9a-f]{64}\n$")
+            shutil.rmtree(self.path("shards"))
+
+    def test_lists_that_no_cut_can_mark(self):
+        one = {"file": "a.c"}
+        write(self.top, {"none.json": json.dumps(dict(LIST, files=[], units=[])), "odd.json": json.dumps(dict(LIST, files=[{"text": ""}], units=[])),
+                         "many.json": json.dumps(dict(LIST, files=[{"name": "a.c", "text": ""}], units=[one] * 65535))})
+        for name, reason in (("none", "none.json: files[0] is to have a name"), ("odd", "odd.json: files[0] is to have a name"),
+                             ("many", "1 parts are too few: with its mark a part has at most 65535 units")):
+            done = script("shards.py", "cut", "1", name + ".json", cwd=self.top)
+            self.assertEqual((done.returncode, done.stderr.decode()), (3, "shards.py: %s\n" % reason))
+            self.assertFalse(os.path.exists(self.path("shards")))
+        self.assertEqual(script("shards.py", "cut", "2", "many.json", cwd=self.top).returncode, 0)
+        done = cppunits("deps", input=read(self.top, "shards/001.json"))
+        self.assertEqual((done.returncode, done.stdout.count(b"\nok\n")), (1, 32768))
 
 
 if __name__ == "__main__":
