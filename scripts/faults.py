@@ -1,29 +1,35 @@
 #!/usr/bin/env python3
-"""Prints the faults of an output of cppunits as compilers do: path, line, column, message and remedy."""
+"""Prints the faults of an output of cppunits as compilers do: path, line, column, message and remedy, once for each place."""
 import os
 import re
 import sys
 import unicodedata
 
+import explain
 import include_chain
 from common import DONE, GENERATED, PARTLY, Refused, compact, opened, parser, plain, read_list, run, shown, units_of
 from fault_texts import advice, message
+from tokens import Text, tokens_of
 
 TEXT = """\
-Print the faults of an output of `cppunits deps` (or `dump`) as compilers do, one for each unit that has one:
+Print the faults of an output of `cppunits deps` (or `dump`) as compilers do, one for each place where units end:
 
   In file included from src/main.c:2:
-  lib/low.h:7:1: error: no such file: word.h [fault 31]
+  lib/low.h:7:10: error: no such file: word.h [fault 31]
       7 | #include "word.h"
-        | ^
+        |          ^
+  note: 12 units end here, the first is src/main.c
   note: Give the directory that has it: by `-I` in a build's command, by `search` in a list, whose `files` name it.
 
-LIST is the input of cppunits.  The include lines above a fault are printed if the unit's dependencies and the sources
-allow only one way; otherwise the unit is named.  The source line is printed if it fits the fault.  Columns count bytes,
-from 1.  A path below the current directory is relative to it.  <command line> is the unit's definitions, one a line.
+LIST is the input of cppunits.  The include lines above a fault are those of the first unit.  They are printed if its
+dependencies and the sources allow only one way; otherwise the unit is named.  The source line is printed if it fits the
+fault.  The place is that of the constant, the macro name or the header name if it is on the line, otherwise that of the
+directive.  Columns count bytes, from 1.  A path below the current directory is relative to it.  <command line> is the
+unit's definitions, one a line.
 
-Use --format json for a JSON object a line for each fault: path, line, column, number, message, advice, text, unit (its
-number), source (the path of its file) and chain (path and line of each include line, the innermost first, or null).
+Use --format json for a JSON object a line for each place: path, line, column, number, message, advice, text, unit (the
+number of the first), source (the path of its file), units (how many), definition (path, line and column of the macro's
+name, or null) and chain (path and line of each include line, the innermost first, or null).
 
 Example:
   cppunits --root . deps < list.json | faults.py --root . list.json"""
@@ -45,11 +51,12 @@ class Sources:
     def __init__(self, listed, root, made=None):
         self.root, self.here = os.path.abspath(root), os.getcwd()
         self.made = self.root if made is None else os.path.abspath(made)
-        self.read, self.split, self.directives = {}, {}, {}
+        self.read, self.split, self.directives, self.macros = {}, {}, {}, {}
         self.files, self.units = listed["files"], listed["units"]
         self.search, self.once = listed.get("search", []), listed.get("profile") in ("later", "gnu")
+        self.profile = listed.get("profile", "c11")
         # whether trigraphs are replaced
-        self.trigraphs = listed.get("profile") != "gnu"
+        self.trigraphs = self.profile != "gnu"
         self.names = [row.get("name") if isinstance(row, dict) else None for row in self.files]
         lists = [self.search] + [unit.get(member, []) for unit in self.units if isinstance(unit, dict)
                                  for member in ("search", "define")]
@@ -86,16 +93,28 @@ class Sources:
         except (OSError, ValueError, TypeError, AttributeError):
             return None
 
-    def line(self, row, number):
-        """Returns a line of a file without its line end, or None."""
+    def lines(self, row):
+        """Returns the lines of a file, which may end in a carriage return, or None."""
         if row not in self.split:
             data = self.data(row)
             data = data[3:] if data is not None and data.startswith(b"\xef\xbb\xbf") else data
             self.split[row] = None if data is None else data.split(b"\n")
-        lines = self.split[row]
+        return self.split[row]
+
+    def line(self, row, number):
+        """Returns a line of a file without its line end, or None."""
+        lines = self.lines(row)
         if lines is None or not 1 <= number <= len(lines):
             return None
         return lines[number - 1].rstrip(b"\r")
+
+    def definitions_of(self, name, row):
+        """Returns the definitions of a macro in a file."""
+        if (name, row) not in self.macros:
+            data = self.data(row)
+            known = data is not None and name in data
+            self.macros[name, row] = explain.definitions(name, self.lines(row), row, self.trigraphs) if known else []
+        return self.macros[name, row]
 
     def source(self, row):
         """Returns a file's include lines, or None if they can't be known."""
@@ -126,8 +145,10 @@ class Fault:
             raise Refused("unit %d: no fault as cppunits prints it" % unit.number)
         self.number, self.row, self.line, self.column = (int(word) for word in found.groups()[:4])
         self.text = plain(found[5] or b"").decode("utf-8", "surrogateescape")
-        self.unit, self.sources = unit, sources
+        self.unit, self.sources, self.count = unit, sources, 1
         self.order = [self.opened_row(line) for line in unit.lines if line.startswith(b"dep ")]
+        # the tokens of a dump aren't needed any more
+        unit.lines = []
         self.compare(unit.number < len(sources.units) and as_bytes(sources.units[unit.number]["file"]) == unit.name)
         self.compare(self.row == DEFINITIONS or self.row < len(sources.names))
 
@@ -149,13 +170,21 @@ class Fault:
 
     @property
     def path(self):
-        return COMMAND_LINE if self.row == DEFINITIONS else self.sources.path(self.sources.names[self.row])
+        return self.path_of(self.row)
+
+    def path_of(self, row):
+        return COMMAND_LINE if row == DEFINITIONS else self.sources.path(self.sources.names[row])
+
+    def key(self):
+        """Returns what two units have in common if the same place ends them."""
+        texts = self.sources.definitions(self.unit)[self.line - 1:self.line] if self.row == DEFINITIONS else ()
+        return self.row, self.line, self.column, self.number, self.text, tuple(texts)
 
     def is_own(self):
         """Returns whether the fault is in the file that is compiled."""
         return self.row != DEFINITIONS and as_bytes(self.sources.names[self.row]) in (self.unit.name, self.unit.source)
 
-    def shown_line(self):
+    def own_line(self):
         """Returns the source line, or None if no line is there or the line doesn't have what the fault is about."""
         if self.row == DEFINITIONS:
             texts = self.sources.definitions(self.unit)
@@ -170,6 +199,36 @@ class Fault:
         else:
             fits = is_name if self.number in AT_NAMES else rest.startswith(HASHES) or (is_name and self.number == 35)
         return line if fits else None
+
+    def shown_line(self):
+        """Returns the source line of the place, or None."""
+        line = self.own_line()
+        return line if line is None or self.place[0] == self.line else self.sources.line(self.row, self.place[0])
+
+    def explain(self):
+        """Finds the place of the token, what more the message says, and the definition of the macro."""
+        self.place, self.more, self.definition = (self.line, self.column), "", None
+        if self.number == explain.DIRECTIVE:
+            self.more = explain.directive(self.text, self.sources.profile) or ""
+        if self.row == DEFINITIONS or self.own_line() is None:
+            return
+        source = Text(self.sources.lines(self.row), self.line, self.column, self.sources.trigraphs)
+        text = self.text.encode("utf-8", "surrogateescape")
+        self.place = explain.token_place(self.number, text, source) or self.place
+        if self.number == explain.CONDITION:
+            found = explain.condition(source.line(), self.definitions_of, self.sources.profile)
+            self.more = ": " + found if found else ""
+        if self.number == explain.ARGUMENTS:
+            given = explain.given_arguments(text, source)
+            if given is not None:
+                self.more, self.definition = explain.arguments(self.definitions_of(text), given, self.sources.profile)
+
+    def definitions_of(self, name):
+        """Returns the definitions of a macro that the unit may have met."""
+        own = [explain.definition(tokens_of(text), DEFINITIONS)._replace(line=number)
+               for number, text in enumerate(map(as_bytes, self.sources.definitions(self.unit)), 1)
+               if re.match(re.escape(name) + rb"(?![\w$\x80-\xff])", text)]
+        return own + [one for row in self.order for one in self.sources.definitions_of(name, row)]
 
     def chain(self):
         """Returns the path and line of each include line above the fault, the innermost first; None if they aren't certain."""
@@ -206,17 +265,40 @@ class Fault:
 
     def members(self):
         """Returns the members of the fault's JSON object (--format json)."""
+        self.explain()
         chain = self.chain()
         above = None if chain is None else [{"path": path, "line": line} for path, line in chain]
-        return {"path": self.path, "line": self.line, "column": self.column, "number": self.number,
-                "message": message(self.number, self.text), "advice": advice(self.number), "text": self.text,
-                "unit": self.unit.number, "source": self.source, "chain": above}
+        line, column = self.place
+        told, one = message(self.number, self.text) + self.more, self.definition
+        defined = one and {"path": self.path_of(one.row), "line": one.line, "column": one.column}
+        return {"path": self.path, "line": line, "column": column, "number": self.number, "message": told, "advice": advice(self.number),
+                "text": self.text, "unit": self.unit.number, "source": self.source, "units": self.count, "definition": defined, "chain": above}
 
     def lines(self, color):
         """Returns the lines that are printed for the fault (--format text)."""
+        self.explain()
+
         def set_in(style, text):
             return style + text + PLAIN if color else text
 
+        yield from self.lines_above(set_in)
+        place = "%s:%d:%d:" % (readable(self.path), *self.place)
+        told = readable(message(self.number, self.text) + self.more)
+        yield "%s %s %s [fault %d]" % (set_in(PLACE, place), set_in(ERROR, "error:"), told, self.number)
+        line = self.shown_line()
+        if line is not None:
+            text, before = excerpt(line, self.place[1])
+            yield "%5d | %s" % (self.place[0], text)
+            yield "      | %s%s" % (before, set_in(CARET, "^"))
+        if self.definition:
+            place = "%s:%d:%d:" % (readable(self.path_of(self.definition.row)), self.definition.line, self.definition.column)
+            yield "%s %s macro %s is defined here" % (set_in(PLACE, place), set_in(NOTE, "note:"), readable(self.text))
+        notes = ["%d units end here, the first is %s" % (self.count, readable(self.source))] if self.count > 1 else []
+        for note in notes + [advice(self.number)] * bool(advice(self.number)):
+            yield "%s %s" % (set_in(NOTE, "note:"), note)
+
+    def lines_above(self, set_in):
+        """Returns the lines before the message: the include lines, or the unit."""
         chain = self.chain()
         above = ["%s:%d" % (readable(path), line) for path, line in chain or ()]
         for at, place in enumerate(above):
@@ -224,16 +306,6 @@ class Fault:
             yield "%s %s%s" % (begin, set_in(PLACE, place), ":" if at == len(above) - 1 else ",")
         if not above and not self.is_own():
             yield "In unit %s:" % set_in(PLACE, readable(self.source))
-        place = "%s:%d:%d:" % (readable(self.path), self.line, self.column)
-        told = readable(message(self.number, self.text))
-        yield "%s %s %s [fault %d]" % (set_in(PLACE, place), set_in(ERROR, "error:"), told, self.number)
-        line = self.shown_line()
-        if line is not None:
-            text, before = excerpt(line, self.column)
-            yield "%5d | %s" % (self.line, text)
-            yield "      | %s%s" % (before, set_in(CARET, "^"))
-        if advice(self.number):
-            yield "%s %s" % (set_in(NOTE, "note:"), advice(self.number))
 
 
 def as_bytes(name):
@@ -278,25 +350,25 @@ def blank(one):
 
 
 def print_faults(listed, output_lines, root=".", to=None, color=False, form="text", made=None):
-    """Prints the fault of each unit that has one, and returns how many there are.
+    """Prints one report for each place where units end, and returns how many units have a fault.
 
     listed: the list's object; output_lines: the output of cppunits, as lines of bytes (for example an open binary file); root: the
     directory that names in the list are relative to; to: a text file; color: whether to print colors; form: `text` or `json`; made: the
     directory of the files that were generated for the list, if they aren't below the root."""
-    to = sys.stdout if to is None else to
-    sources, count = Sources(listed, root, made), 0
+    to, found = sys.stdout if to is None else to, {}
+    sources = Sources(listed, root, made)
     for unit in units_of("the output", output_lines):
-        if unit.fault is None:
-            continue
-        count += 1
-        fault = Fault(unit, sources)
+        if unit.fault is not None:
+            fault = Fault(unit, sources)
+            first = found.setdefault(fault.key(), fault)
+            first.count += first is not fault
+    for fault in found.values():
         if form == "json":
-            data = compact(fault.members())
+            put(to, compact(fault.members()))
         else:
             text = "".join(line + "\n" for line in fault.lines(color))
-            data = text.encode("utf-8", "backslashreplace")
-        put(to, data)
-    return count
+            put(to, text.encode("utf-8", "backslashreplace"))
+    return sum(fault.count for fault in found.values())
 
 
 def put(to, data):

@@ -19,8 +19,10 @@ import unittest
 from counted import LIST, TOP, Folder, cppunits, main, missed, run, script, write
 
 sys.path.insert(0, os.path.join(TOP, "scripts"))
+import explain  # noqa: E402
 import faults  # noqa: E402
 from fault_texts import FAULTS, message  # noqa: E402
+from tokens import tokens_of  # noqa: E402
 
 FIRST = re.compile(r"^(.+):(\d+):(\d+): error: (.*) \[fault (\d+)\]$", re.M)
 
@@ -59,9 +61,9 @@ class Text(Faults):
         files = {"src/a.c": "int x;\n#include <low.h>\n", "inc/low.h": "\n  # include \"gone.h\"\n"}
         self.assertEqual(self.report(files, search=["inc"]), """\
 In file included from src/a.c:2:
-inc/low.h:2:3: error: no such file: gone.h [fault 31]
+inc/low.h:2:13: error: no such file: gone.h [fault 31]
     2 |   # include "gone.h"
-      |   ^
+      |             ^
 note: Give the directory that has it: by `-I` in a build's command, by `search` in a list, whose `files` name it.
 """)
 
@@ -115,8 +117,7 @@ class Lines(Faults):
         """Returns the source line and the caret's line, without what is before them."""
         lines = self.report({"a.c": text}, **more).splitlines()
         at = next(at for at, line in enumerate(lines) if FIRST.match(line))
-        found = lines[at + 1:-1]
-        return [line[8:] for line in found]
+        return [line[8:] for line in lines[at + 1:] if re.match(r" *\d* \| ", line)]
 
     def test_tabs_are_kept(self):
         self.assertEqual(self.lines("#define f(a) a\n\tx\tf(1, 2)\n"), ["\tx\tf(1, 2)", "\t \t^"])
@@ -285,13 +286,153 @@ def at_random(choice):
     return files
 
 
+class Explained(Faults):
+    """Tests what is said of a fault beyond its number and text."""
+
+    def told(self, text, number, profile="c11", **more):
+        """Returns the object of the fault of a file, which must have this number."""
+        found, = self.members({"a.c": text}, profile=profile, **more)
+        self.assertEqual(found["number"], number, text)
+        return found
+
+    PLACES = ((24, "#if 08\n#endif\n", 1, 5), (24, "#if 1 && \\\n  0x1g\n#endif\n", 2, 3), (24, "#if 0\n#elif /* 08 */ (1 + 08)\n#endif\n", 2, 21),
+              (24, "int a;\n#if /*\n*/ 1 + 08\n#endif\n", 3, 8), (24, "#define N 08\n  #if N\n#endif\n", 2, 3), (25, "#if 'a' == 'ab'\n#endif\n", 1, 12),
+              (25, "#define C 'ab'\n#if C\n#endif\n", 2, 1), (31, "  #  include <x.h>\n", 1, 14), (31, "#include \\\r\n\"x.h\" /* */\r\n", 2, 1),
+              (31, "\ufeff#include/**/\"x.h\"\n", 1, 13), (31, "#define X <x.h>\n#include X\n", 2, 1), (18, "#define f(a) a\nx f(1, 2)\n", 2, 3),
+              (19, "#define f(a) a ## -\nx f(+)\n", 2, 3), (20, "#define f(a) #a\nx f(\\)\n", 2, 3), (23, " #if =\n#endif\n", 1, 2), (26, "#if 1 / 0\n#endif\n", 1, 1))
+
+    def test_places(self):
+        for number, text, line, column in self.PLACES:
+            found = self.told(text, number)
+            self.assertEqual((found["line"], found["column"]), (line, column), text)
+
+    def test_lines_of_the_places(self):
+        text = self.report({"a.c": "#if 1 && \\\n  0x1g\n#endif\n"})
+        self.assertIn("a.c:2:3: error: 0x1g is no integer constant, or fits no type [fault 24]\n    2 |   0x1g\n      |   ^\n", text)
+
+    def test_places_are_those_of_gcc(self):
+        missed("gcc")
+        for number, text, *_ in self.PLACES:
+            if number in (24, 25, 31) and "#define" not in text and "\ufeff" not in text:
+                found = self.told(text, number)
+                write(self.top, {"a.c": text})
+                said = run(["gcc", "-E", "-P", "a.c"], cwd=self.top, env=dict(os.environ, LC_ALL="C")).stderr.decode()
+                theirs = re.search(r"^a.c:(\d+):(\d+): ", said, re.M)
+                self.assertEqual(theirs.groups(), (str(found["line"]), str(found["column"])), text)
+
+    def test_conditions(self):
+        for line, reason in (("A = 1", "'=' is no operator"), ("", "missing operand"), ("1 +", "missing operand after '+'"), ("(1", "missing ')'"),
+                             ("== 1", "missing operand before '=='"), ("1)", "')' without '('"), ("()", "missing operand before ')'"),
+                             ("1 2", "missing operator before '2'"), ("(int) 1", "missing operator before '1'"), ("1 (2)", "missing operator before '('"),
+                             ("F(1)", "there is no function-like macro F"), ("\"a\"", "a string literal is no operand"), ("1 ? 2", "'?' without ':'"),
+                             ("(1 ? 2)", "'?' without ':'"), ("1 : 2", "':' without '?'"), ("1 , 2", "',' is no operator"), ("++1", "'++' is no operator"),
+                             ("defined X = defined ( Y )", "'=' is no operator"), ("1 \\\n /*\n*/ +", "missing operand after '+'")):
+            self.assertEqual(self.told("#if 0\n#elif %s\n#endif\n" % line, 23)["message"], "%s: %s" % (FAULTS[23][0], reason))
+        found = self.told("#if __has_include(<x.h>) = 1\n#endif\n", 23, "gnu")["message"]
+        self.assertEqual(found, FAULTS[23][0] + ": '=' is no operator")
+
+    def test_conditions_with_macros(self):
+        for define, line, reason in (("X", "X == 1", ": missing operand before '=='; X is empty"), ("X", "1 && X", ": missing operand after '&&'; X is empty"),
+                                     ("X 3", "X = 1", ": '=' is no operator"), ("X 1 +", "X", ": missing operand after '+'"),
+                                     ("X \\\n 1 2", "X", ": missing operator before '2'"), ("/**/ X \"a\"", "X", ": a string literal is no operand"),
+                                     ("X Y", "X = 1", ": '=' is no operator"), ("F F", "F(1)", ": there is no function-like macro F"),
+                                     ("__has_include __has_include", "__has_include (<x>)", ": there is no function-like macro __has_include; the profile gnu has it"),
+                                     # what these macros stand for isn't known
+                                     ("X Y\n#define Y 1", "X = 1", ""), ("X =", "1 X 2", ""), ("X(a) = a", "X(1)", ""), ("X(a)", "X(=)", ""), ("Y 1", "__FILE__", "")):
+            self.assertEqual(self.told("#define %s\n#if %s\n#endif\n" % (define, line), 23)["message"], FAULTS[23][0] + reason, (define, line))
+        units = [{"file": "a.c", "define": ["X", "F(a) a ="]}]
+        self.assertTrue(self.told("#if X\n#endif\n", 23, units=units)["message"].endswith(": missing operand; X is empty"))
+        self.assertEqual(self.told("#if F(1)\n#endif\n", 23, units=units)["message"], FAULTS[23][0])
+        # there are two ways to read it, which lack different things
+        self.assertEqual(self.told("#define X +\n#undef X\n#define X\n#if X == 1\n#endif\n", 23)["message"], FAULTS[23][0])
+
+    def test_conditions_at_random(self):
+        """Wants a reason for each condition that the program refuses by fault 23, and none for those that it evaluates."""
+        choice, signs = random.Random(74), "1 2 'a' X ( ( ) ) + - ! ~ * << == && || ? : , = \"s\" ++ #".split()
+        lines = [" ".join(choice.choice(signs[:16] if at % 2 else signs) for _ in range(choice.randint(0, 7))) for at in range(4000)]
+        lines += ["%s %s %s" % (one, sign, other) for one in ("1", "X", "- 2", "( 1 )") for sign in signs for other in ("1", "X", "! 2", "( 1 )")]
+        files = {"%d.c" % at: "#if %s\n#endif\n" % line for at, line in enumerate(lines)}
+        listed = self.listed(files, [{"file": name} for name in files], inside=True)
+        counts = [0, 0]
+        for line, last in zip(lines, re.findall(rb"^(ok|fault \d+) ?.*$", self.printed(listed), re.M)):
+            found = explain.condition(tokens_of(b"#if " + line.encode()), lambda name: [], "c11")
+            if last in (b"ok", b"fault 23"):
+                self.assertEqual(found is None, last == b"ok", line)
+                counts[last == b"ok"] += 1
+        self.assertGreater(min(counts), 100)
+
+    def test_arguments(self):
+        for define, use, profile, given, wanted in (
+                ("f(a) a", "f(1, 2)", "c11", 2, "1"), ("f() a", "f(1)", "c11", 1, "0"), ("f(a, b) a", "f()", "c11", 1, "2"),
+                ("f(a, b) a", "f((1, 2))", "c11", 1, "2"), ("f(a,\\\nb) a", "f\n( 1,\n2 /* , */,\n\",\", ',')", "c11", 4, "2"),
+                ("f(a, ...) a", "f(1)", "c11", 1, "at least 2"), ("f(a, b, ...) a", "f(1)", "gnu", 1, "at least 2"), ("f(a, b, c...) a", "f(1)", "gnu", 1, "at least 2")):
+            found = self.told("#define %s\n%s\n" % (define, use), 18, profile)
+            self.assertEqual(found["message"], "wrong number of arguments of macro f: %d given, %s wanted" % (given, wanted), use)
+            self.assertEqual(found["definition"], {"path": "a.c", "line": 1, "column": 9})
+
+    def test_arguments_that_are_not_certain(self):
+        plain = message(18, "f")
+        for text in ("#define f(a) a\n#define g f(1, 2)\ng\n", "#define f(a) a\n#undef f\n#define f(a, b) a\nf(1, 2, 3)\n",
+                     "#define f(a) a\n#define h(a) f a\nh((1, 2))\n"):
+            found = self.told(text, 18, "gnu")
+            self.assertEqual((found["message"], found["definition"]), (plain, None), text)
+        # a definition that takes what was given isn't the one
+        found = self.told("#define f(a, b) a\n#undef f\n#define f(a) a\nf(1, 2)\n", 18)
+        self.assertEqual((found["message"], found["definition"]["line"]), (plain + ": 2 given, 1 wanted", 3))
+        # two definitions refuse it in the same way
+        found = self.told("#define f(a) a\n#undef f\n#define f(a) b\nf(1, 2)\n", 18)
+        self.assertEqual((found["message"], found["definition"]), (plain + ": 2 given, 1 wanted", None))
+
+    def test_where_a_macro_is_defined(self):
+        files = {"a.c": "#include \"h.h\"\nf(1, 2)\n", "h.h": "\n # /**/ define f(a) a\n"}
+        self.assertTrue(self.report(files).endswith("      | ^\nh.h:2:16: note: macro f is defined here\nnote: " + FAULTS[18][2] + "\n"))
+        units = [{"file": "a.c", "define": ["g", "f(a) a"]}]
+        self.assertIn("\n<command line>:2:1: note: macro f is defined here\n", self.report({"a.c": "f(1, 2)\n"}, units=units))
+
+    def test_directives(self):
+        for word, profile, more in (("inclde", "c11", "; did you mean #include?"), ("elseif", "gnu", "; did you mean #elif?"), ("edif", "c11", "; did you mean #endif?"),
+                                    ("warnin", "c11", ""), ("warnin", "gnu", "; did you mean #warning?"), ("warning", "c11", "; the profile gnu has it"),
+                                    ("include_next", "later", "; the profile gnu has it"), ("elifdef", "c11", "; the profile later has it"), ("foo", "gnu", ""), ("1", "c11", "")):
+            self.assertEqual(self.told("#if 1\n#%s\n#endif\n" % word, 8, profile)["message"], message(8, word) + more)
+
+    def test_names_of_directives_are_those_of_the_program(self):
+        """Wants that the program knows each directive that may be suggested."""
+        for profile, names in explain.DIRECTIVES.items():
+            files = {name + ".c": "#if 1\n#%s\n#endif\n" % name for name in names}
+            listed = self.listed(files, [{"file": name} for name in files], inside=True, profile=profile)
+            self.assertNotIn(b"\nfault 8 ", self.printed(listed))
+
+    def test_one_report_for_a_place(self):
+        files = {"a.c": "#include \"h.h\"\n", "b.c": "#include \"h.h\"\n", "c.c": "#if X\n#include \"h.h\"\n#endif\n", "h.h": "int a;\n#error stop\n"}
+        units = [{"file": "c.c"}, {"file": "b.c"}, {"file": "a.c"}, {"file": "c.c", "define": ["X 1"]}, {"file": "c.c", "define": ["X+1"]},
+                 {"file": "a.c", "define": ["Y 1", "X+1"]}, {"file": "c.c", "define": ["X+1"]}]
+        found = self.members(files, units=units)
+        self.assertEqual([(one["path"], one["line"], one["number"], one["unit"], one["source"], one["units"]) for one in found],
+                         [("h.h", 2, 34, 1, "b.c", 3), ("<command line>", 1, 12, 4, "c.c", 2), ("<command line>", 2, 12, 5, "a.c", 1)])
+        text = self.report(files, units=units)
+        self.assertTrue(text.startswith("In file included from b.c:1:\nh.h:2:1: error: #error stop [fault 34]\n    2 | #error stop\n      | ^\n"
+                                        "note: 3 units end here, the first is b.c\nnote: " + FAULTS[34][2] + "\nIn unit c.c:\n"), text)
+        self.assertEqual(text.count("units end here"), 2)
+
+    def test_a_file_that_changed(self):
+        """Wants the fault's own place and message if the line isn't there any more."""
+        listed = self.listed({"a.c": "#define f(a) a\nf(1, 2)\n", "b.c": "#if 08\n#endif\n", "c.c": "#if A = 1\n#endif\n"},
+                             [{"file": "a.c"}, {"file": "b.c"}, {"file": "c.c"}])
+        output = self.printed(listed)
+        for text in ("", "\n\n\n", "#define f(a, b) a\nf(1, 2)\n#if 1\n", "#if", "/*", "\"", "\\"):
+            write(self.top, {name: text for name in ("a.c", "b.c", "c.c")})
+            found = self.report_of(listed, output)
+            self.assertEqual([one[1:3] + one[4:] for one in FIRST.findall(found)], [("2", "1", "18"), ("1", "1", "24"), ("1", "1", "23")], text)
+            self.assertIn("error: " + message(18, "f") + " [", found)
+
+
 class Forms(Faults):
     def test_an_object_for_each_fault(self):
         files = {"a.c": "#include \"b.h\"\n", "b.h": "#undef\n"}
         self.assertEqual(self.members(files), [{
             "path": "b.h", "line": 1, "column": 1, "number": 9, "message": "malformed #undef: one name is expected",
-            "advice": "Write the name, and remove what follows it.", "text": "undef", "unit": 0, "source": "a.c",
-            "chain": [{"path": "a.c", "line": 1}]}])
+            "advice": "Write the name, and remove what follows it.", "text": "undef", "unit": 0, "source": "a.c", "units": 1,
+            "definition": None, "chain": [{"path": "a.c", "line": 1}]}])
 
     def test_colors(self):
         listed = self.listed({"a.c": "#error x\n"})
