@@ -1,14 +1,16 @@
 """Says more of a fault than its number: the place of the token, what a condition lacks, how many arguments were given.
 
-All of this is read from the sources.  What isn't certain isn't said: each function here may return None."""
+All of this is read from the sources.  What isn't certain isn't said: a function returns None, or raises Unclear."""
 import difflib
 import itertools
 import re
 from collections import namedtuple
 
-from tokens import Text, tokens_of
+from tokens import Text, Unclear
 
 CONSTANTS, NO_FILE, ARGUMENTS, DIRECTIVE, CONDITION = (24, 25), 31, 18, 8, 23
+# the faults for which the source is read
+BY_SOURCE = CONSTANTS + (NO_FILE, ARGUMENTS, CONDITION)
 C11 = ("include", "define", "undef", "if", "ifdef", "ifndef", "elif", "else", "endif", "line", "error", "pragma")
 LATER = C11 + ("elifdef", "elifndef")
 DIRECTIVES = {"c11": C11, "later": LATER, "gnu": LATER + ("include_next", "warning", "ident", "sccs")}
@@ -19,9 +21,9 @@ OPERATORS = HAS_INCLUDE + (b"defined",)
 PREDEFINED = (b"__FILE__", b"__LINE__", b"__DATE__", b"__TIME__", b"__STDC__", b"__STDC_HOSTED__", b"__STDC_VERSION__", b"__COUNTER__")
 UNARY = (b"+", b"-", b"!", b"~")
 BINARY = (b"*", b"/", b"%", b"+", b"-", b"<<", b">>", b"<", b">", b"<=", b">=", b"==", b"!=", b"&", b"^", b"|", b"&&", b"||")
-DEFINE = rb"define(?:[\s\\]|\?\?/|/\*.*?\*/)+(%s)(?![\w$\x80-\xff])"
-# the most ways to read the names of a condition that are tried
-MAX_READINGS = 256
+DEFINE = rb"define(?:[\s\\]|\?\?/|/\*(?:[^*]|\*(?!/)){0,40}\*/)+(%s)(?![\w$\x80-\xff])"
+# the most names of a condition, ways to read them, and definitions of one name in a file
+MAX_NAMES, MAX_READINGS, MAX_DEFINITIONS = 16, 256, 16
 
 # a definition: where its name is; its parameters, or None, and whether the last one is variable; the tokens of its list
 Definition = namedtuple("Definition", "row line column parameters variadic body")
@@ -50,7 +52,9 @@ def directive(name, profile):
 def definitions(name, lines, row, trigraphs):
     """Returns the definitions of a macro in the lines of a source: all that may be one, also in comments and in groups that are skipped."""
     data, found = b"\n".join(lines), []
-    for match in re.finditer(DEFINE % re.escape(name), data, re.DOTALL):
+    for match in re.finditer(DEFINE % re.escape(name), data):
+        if len(found) == MAX_DEFINITIONS:
+            raise Unclear
         line, before = data.count(b"\n", 0, match.start(1)) + 1, data.rfind(b"\n", 0, match.start(1))
         found.append(definition(Text(lines, line, match.start(1) - before, trigraphs).line(), row))
     return found
@@ -79,8 +83,8 @@ def given_arguments(name, source):
         return None
     depth, count, before = 1, 0, begin[1]
     for token in tokens:
-        if before.kind == "end" and token.text in (b"#", b"%:"):
-            # a directive among the arguments
+        if token.kind == "unmatched" or (before.kind == "end" and token.text in (b"#", b"%:")):
+            # an unmatched quote, or a directive among the arguments
             return None
         before = token
         depth += (token.text == b"(") - (token.text == b")")
@@ -119,7 +123,8 @@ def condition(line, of_name, profile):
     """Returns what a condition lacks, from the tokens of its directive.  `of_name` returns the definitions of a name."""
     tokens = operands(line[2:], profile)
     names = sorted({token.text for token in tokens if token.kind == "name"})
-    if any(name in PREDEFINED for name in names):
+    unclear = any(token.kind == "unmatched" or token.text in PREDEFINED for token in tokens)
+    if unclear or len(names) > MAX_NAMES:
         return None
     readings = [readings_of(name, of_name) for name in names]
     if None in readings or len(list(itertools.islice(itertools.product(*readings), MAX_READINGS + 1))) > MAX_READINGS:
@@ -144,7 +149,7 @@ def operands(tokens, profile):
 
 
 def readings_of(name, of_name):
-    """Returns the lists of tokens that a name may stand for: itself (None), and that of each definition; None if there are other macros in these."""
+    """Returns the lists of tokens that a name may stand for, None for itself; or None if they have other macros."""
     found = of_name(name)
     names = {token.text for one in found for token in one.body if token.kind == "name"} - {name}
     if any(one.parameters is not None for one in found) or any(other in OPERATORS + PREDEFINED or of_name(other) for other in names):
@@ -210,7 +215,8 @@ def at_operator(token, before, open_signs):
     elif token.text in (b":", b")"):
         wanted = {b":": b"?", b")": b"("}[token.text]
         if open_signs[-1:] != [wanted]:
-            return "'?' without ':'" if b"(" in open_signs and token.text == b")" else "'%s' without '%s'" % (token.text.decode(), wanted.decode())
+            is_open = token.text == b")" and b"(" in open_signs
+            return "'?' without ':'" if is_open else "'%s' without '%s'" % (readable(token.text), readable(wanted))
         open_signs.pop()
     elif token.text not in BINARY:
         return "'%s' is no operator" % readable(token.text)

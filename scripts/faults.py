@@ -1,5 +1,6 @@
 #!/usr/bin/env python3
 """Prints the faults of an output of cppunits as compilers do: path, line, column, message and remedy, once for each place."""
+import contextlib
 import os
 import re
 import sys
@@ -9,7 +10,7 @@ import explain
 import include_chain
 from common import DONE, GENERATED, PARTLY, Refused, compact, opened, parser, plain, read_list, run, shown, units_of
 from fault_texts import advice, message
-from tokens import Text, tokens_of
+from tokens import Text, Unclear, tokens_of
 
 TEXT = """\
 Print the faults of an output of `cppunits deps` (or `dump`) as compilers do, one for each place where units end:
@@ -210,18 +211,22 @@ class Fault:
         self.place, self.more, self.definition = (self.line, self.column), "", None
         if self.number == explain.DIRECTIVE:
             self.more = explain.directive(self.text, self.sources.profile) or ""
-        if self.row == DEFINITIONS or self.own_line() is None:
-            return
-        source = Text(self.sources.lines(self.row), self.line, self.column, self.sources.trigraphs)
-        text = self.text.encode("utf-8", "surrogateescape")
-        self.place = explain.token_place(self.number, text, source) or self.place
+        elif self.number in explain.BY_SOURCE and self.row != DEFINITIONS and self.own_line() is not None:
+            with contextlib.suppress(Unclear):
+                self.explain_by(Text(self.sources.lines(self.row), self.line, self.column, self.sources.trigraphs))
+
+    def explain_by(self, source):
+        """Finds the same in the source, which begins at the fault's own place."""
+        text, profile = self.text.encode("utf-8", "surrogateescape"), self.sources.profile
         if self.number == explain.CONDITION:
-            found = explain.condition(source.line(), self.definitions_of, self.sources.profile)
+            found = explain.condition(source.line(), self.definitions_of, profile)
             self.more = ": " + found if found else ""
-        if self.number == explain.ARGUMENTS:
+        elif self.number == explain.ARGUMENTS:
             given = explain.given_arguments(text, source)
             if given is not None:
-                self.more, self.definition = explain.arguments(self.definitions_of(text), given, self.sources.profile)
+                self.more, self.definition = explain.arguments(self.definitions_of(text), given, profile)
+        else:
+            self.place = explain.token_place(self.number, text, source) or self.place
 
     def definitions_of(self, name):
         """Returns the definitions of a macro that the unit may have met."""
@@ -271,8 +276,9 @@ class Fault:
         line, column = self.place
         told, one = message(self.number, self.text) + self.more, self.definition
         defined = one and {"path": self.path_of(one.row), "line": one.line, "column": one.column}
-        return {"path": self.path, "line": line, "column": column, "number": self.number, "message": told, "advice": advice(self.number),
-                "text": self.text, "unit": self.unit.number, "source": self.source, "units": self.count, "definition": defined, "chain": above}
+        return {"path": self.path, "line": line, "column": column, "number": self.number, "message": told,
+                "advice": advice(self.number), "text": self.text, "unit": self.unit.number, "source": self.source,
+                "units": self.count, "definition": defined, "chain": above}
 
     def lines(self, color):
         """Returns the lines that are printed for the fault (--format text)."""

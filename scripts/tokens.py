@@ -5,16 +5,22 @@ import bisect
 import re
 from collections import namedtuple
 
-MAX_LINES = 2000
+# the most bytes and lines that are read
+MAX_BYTES, MAX_LINES = 16384, 2000
 WORD = rb"[A-Za-z_$\x80-\xff][\w$\x80-\xff]*"
 TOKEN = re.compile(
-    rb"(?P<skipped>[ \t\v\f\r]+|/\*.*?\*/|//[^\n]*)|(?P<end>\n)"
+    rb"(?P<skipped>[ \t\v\f\r]+|/\*.*?(?:\*/|\Z)|//[^\n]*)|(?P<end>\n)"
     rb"|(?P<string>(?:u8|[uUL])?\"(?:\\.|[^\"\\\n])*\")|(?P<character>[uUL]?'(?:\\.|[^'\\\n])*')"
+    rb"|(?P<unmatched>['\"][^\n]*)"
     rb"|(?P<number>\.?[0-9](?:[eEpP][+-]|[\w.$\x80-\xff])*)|(?P<name>" + WORD + rb")"
     rb"|(?P<sign>%:%:|\.\.\.|<<=|>>=|->|\+\+|--|<<|>>|<=|>=|==|!=|&&|\|\||[*/%+\-&^|]=|##|%:|<:|:>|<%|%>|.)", re.DOTALL)
 
 # its kind is the name of a group of TOKEN
 Token = namedtuple("Token", "kind text line column")
+
+
+class Unclear(Exception):
+    """Is raised if a line is too long."""
 
 
 class Text:
@@ -24,7 +30,9 @@ class Text:
         """lines: the physical lines of the source, without their ends; line and column: where to begin, from 1."""
         splices = (b"\\", b"??/") if trigraphs else (b"\\",)
         self.starts, self.places, pieces, length = [], [], [], 0
-        for number in range(line, min(len(lines), line + MAX_LINES) + 1):
+        for number in range(line, min(len(lines) + 1, line + MAX_LINES)):
+            if length >= MAX_BYTES:
+                break
             piece = lines[number - 1].rstrip(b"\r")[column - 1:]
             end = next((end for end in splices if piece.endswith(end)), None)
             piece = piece[:-len(end)] if end else piece + b"\n"
@@ -32,7 +40,8 @@ class Text:
             self.places.append((number, column))
             pieces.append(piece)
             length, column = length + len(piece), 1
-        self.text = b"".join(pieces)
+        self.text = b"".join(pieces)[:MAX_BYTES]
+        self.is_cut = length > MAX_BYTES or number < len(lines)
 
     def place(self, offset):
         """Returns the line and the column of a byte."""
@@ -51,8 +60,10 @@ class Text:
         found = []
         for token in self.tokens():
             if token.kind == "end":
-                break
+                return found
             found.append(token)
+        if self.is_cut:
+            raise Unclear
         return found
 
     def begins(self, token, word):

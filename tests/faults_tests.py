@@ -295,11 +295,16 @@ class Explained(Faults):
         self.assertEqual(found["number"], number, text)
         return found
 
-    PLACES = ((24, "#if 08\n#endif\n", 1, 5), (24, "#if 1 && \\\n  0x1g\n#endif\n", 2, 3), (24, "#if 0\n#elif /* 08 */ (1 + 08)\n#endif\n", 2, 21),
-              (24, "int a;\n#if /*\n*/ 1 + 08\n#endif\n", 3, 8), (24, "#define N 08\n  #if N\n#endif\n", 2, 3), (25, "#if 'a' == 'ab'\n#endif\n", 1, 12),
-              (25, "#define C 'ab'\n#if C\n#endif\n", 2, 1), (31, "  #  include <x.h>\n", 1, 14), (31, "#include \\\r\n\"x.h\" /* */\r\n", 2, 1),
-              (31, "\ufeff#include/**/\"x.h\"\n", 1, 13), (31, "#define X <x.h>\n#include X\n", 2, 1), (18, "#define f(a) a\nx f(1, 2)\n", 2, 3),
-              (19, "#define f(a) a ## -\nx f(+)\n", 2, 3), (20, "#define f(a) #a\nx f(\\)\n", 2, 3), (23, " #if =\n#endif\n", 1, 2), (26, "#if 1 / 0\n#endif\n", 1, 1))
+    # number, text, line and column
+    PLACES = (
+        (24, "#if 08\n#endif\n", 1, 5), (24, "#if 1 && \\\n  0x1g\n#endif\n", 2, 3),
+        (24, "#if 0\n#elif /* 08 */ (1 + 08)\n#endif\n", 2, 21), (24, "int a;\n#if /*\n*/ 1 + 08\n#endif\n", 3, 8),
+        (24, "#define N 08\n  #if N\n#endif\n", 2, 3), (25, "#if 'a' == 'ab'\n#endif\n", 1, 12),
+        (25, "#define C 'ab'\n#if C\n#endif\n", 2, 1), (31, "  #  include <x.h>\n", 1, 14),
+        (31, "#include \\\r\n\"x.h\" /* */\r\n", 2, 1), (31, "\ufeff#include/**/\"x.h\"\n", 1, 13),
+        (31, "#define X <x.h>\n#include X\n", 2, 1), (18, "#define f(a) a\nx f(1, 2)\n", 2, 3),
+        (19, "#define f(a) a ## -\nx f(+)\n", 2, 3), (20, "#define f(a) #a\nx f(\\)\n", 2, 3),
+        (23, " #if =\n#endif\n", 1, 2), (26, "#if 1 / 0\n#endif\n", 1, 1))
 
     def test_places(self):
         for number, text, line, column in self.PLACES:
@@ -320,37 +325,46 @@ class Explained(Faults):
                 theirs = re.search(r"^a.c:(\d+):(\d+): ", said, re.M)
                 self.assertEqual(theirs.groups(), (str(found["line"]), str(found["column"])), text)
 
+    CONDITIONS = (
+        ("A = 1", "'=' is no operator"), ("", "missing operand"), ("1 +", "missing operand after '+'"), ("(1", "missing ')'"),
+        ("== 1", "missing operand before '=='"), ("1)", "')' without '('"), ("()", "missing operand before ')'"),
+        ("1 2", "missing operator before '2'"), ("(int) 1", "missing operator before '1'"), ("1 (2)", "missing operator before '('"),
+        ("F(1)", "there is no function-like macro F"), ("\"a\"", "a string literal is no operand"), ("1 ? 2", "'?' without ':'"),
+        ("(1 ? 2)", "'?' without ':'"), ("1 : 2", "':' without '?'"), ("1 , 2", "',' is no operator"), ("++1", "'++' is no operator"),
+        ("defined X = defined ( Y )", "'=' is no operator"), ("1 \\\n /*\n*/ +", "missing operand after '+'"))
+
     def test_conditions(self):
-        for line, reason in (("A = 1", "'=' is no operator"), ("", "missing operand"), ("1 +", "missing operand after '+'"), ("(1", "missing ')'"),
-                             ("== 1", "missing operand before '=='"), ("1)", "')' without '('"), ("()", "missing operand before ')'"),
-                             ("1 2", "missing operator before '2'"), ("(int) 1", "missing operator before '1'"), ("1 (2)", "missing operator before '('"),
-                             ("F(1)", "there is no function-like macro F"), ("\"a\"", "a string literal is no operand"), ("1 ? 2", "'?' without ':'"),
-                             ("(1 ? 2)", "'?' without ':'"), ("1 : 2", "':' without '?'"), ("1 , 2", "',' is no operator"), ("++1", "'++' is no operator"),
-                             ("defined X = defined ( Y )", "'=' is no operator"), ("1 \\\n /*\n*/ +", "missing operand after '+'")):
+        for line, reason in self.CONDITIONS:
             self.assertEqual(self.told("#if 0\n#elif %s\n#endif\n" % line, 23)["message"], "%s: %s" % (FAULTS[23][0], reason))
         found = self.told("#if __has_include(<x.h>) = 1\n#endif\n", 23, "gnu")["message"]
         self.assertEqual(found, FAULTS[23][0] + ": '=' is no operator")
 
+    # a definition, a condition, and what is said; nothing is said if it isn't known what the macros stand for
+    WITH_MACROS = (
+        ("X", "X == 1", ": missing operand before '=='; X is empty"), ("X", "1 && X", ": missing operand after '&&'; X is empty"),
+        ("X 3", "X = 1", ": '=' is no operator"), ("X 1 +", "X", ": missing operand after '+'"), ("X Y", "X = 1", ": '=' is no operator"),
+        ("X \\\n 1 2", "X", ": missing operator before '2'"), ("/**/ X \"a\"", "X", ": a string literal is no operand"),
+        ("F F", "F(1)", ": there is no function-like macro F"),
+        ("__has_include __has_include", "__has_include (<x>)", ": there is no function-like macro __has_include; the profile gnu has it"),
+        ("X Y\n#define Y 1", "X = 1", ""), ("X =", "1 X 2", ""), ("X(a) = a", "X(1)", ""), ("X(a)", "X(=)", ""), ("Y 1", "__FILE__", ""))
+
     def test_conditions_with_macros(self):
-        for define, line, reason in (("X", "X == 1", ": missing operand before '=='; X is empty"), ("X", "1 && X", ": missing operand after '&&'; X is empty"),
-                                     ("X 3", "X = 1", ": '=' is no operator"), ("X 1 +", "X", ": missing operand after '+'"),
-                                     ("X \\\n 1 2", "X", ": missing operator before '2'"), ("/**/ X \"a\"", "X", ": a string literal is no operand"),
-                                     ("X Y", "X = 1", ": '=' is no operator"), ("F F", "F(1)", ": there is no function-like macro F"),
-                                     ("__has_include __has_include", "__has_include (<x>)", ": there is no function-like macro __has_include; the profile gnu has it"),
-                                     # what these macros stand for isn't known
-                                     ("X Y\n#define Y 1", "X = 1", ""), ("X =", "1 X 2", ""), ("X(a) = a", "X(1)", ""), ("X(a)", "X(=)", ""), ("Y 1", "__FILE__", "")):
-            self.assertEqual(self.told("#define %s\n#if %s\n#endif\n" % (define, line), 23)["message"], FAULTS[23][0] + reason, (define, line))
+        for define, line, more in self.WITH_MACROS:
+            found = self.told("#define %s\n#if %s\n#endif\n" % (define, line), 23)
+            self.assertEqual(found["message"], FAULTS[23][0] + more, (define, line))
         units = [{"file": "a.c", "define": ["X", "F(a) a ="]}]
         self.assertTrue(self.told("#if X\n#endif\n", 23, units=units)["message"].endswith(": missing operand; X is empty"))
         self.assertEqual(self.told("#if F(1)\n#endif\n", 23, units=units)["message"], FAULTS[23][0])
         # there are two ways to read it, which lack different things
-        self.assertEqual(self.told("#define X +\n#undef X\n#define X\n#if X == 1\n#endif\n", 23)["message"], FAULTS[23][0])
+        found = self.told("#define X +\n#undef X\n#define X\n#if X == 1\n#endif\n", 23)
+        self.assertEqual(found["message"], FAULTS[23][0])
 
     def test_conditions_at_random(self):
         """Wants a reason for each condition that the program refuses by fault 23, and none for those that it evaluates."""
         choice, signs = random.Random(74), "1 2 'a' X ( ( ) ) + - ! ~ * << == && || ? : , = \"s\" ++ #".split()
         lines = [" ".join(choice.choice(signs[:16] if at % 2 else signs) for _ in range(choice.randint(0, 7))) for at in range(4000)]
-        lines += ["%s %s %s" % (one, sign, other) for one in ("1", "X", "- 2", "( 1 )") for sign in signs for other in ("1", "X", "! 2", "( 1 )")]
+        operands = "1", "X", "- 2", "( 1 )"
+        lines += ["%s %s %s" % (one, sign, other) for one in operands for sign in signs for other in operands]
         files = {"%d.c" % at: "#if %s\n#endif\n" % line for at, line in enumerate(lines)}
         listed = self.listed(files, [{"file": name} for name in files], inside=True)
         counts = [0, 0]
@@ -361,12 +375,15 @@ class Explained(Faults):
                 counts[last == b"ok"] += 1
         self.assertGreater(min(counts), 100)
 
+    # parameters, arguments, profile, and how many are given and wanted
+    ARGUMENTS = (
+        ("a", "(1, 2)", "c11", 2, "1"), ("", "(1)", "c11", 1, "0"), ("a, b", "()", "c11", 1, "2"), ("a, b", "((1, 2))", "c11", 1, "2"),
+        ("a,\\\nb", "\n( 1,\n2 /* , */,\n\",\", ',')", "c11", 4, "2"), ("a, ...", "(1)", "c11", 1, "at least 2"),
+        ("a, b, ...", "(1)", "gnu", 1, "at least 2"), ("a, b, c...", "(1)", "gnu", 1, "at least 2"))
+
     def test_arguments(self):
-        for define, use, profile, given, wanted in (
-                ("f(a) a", "f(1, 2)", "c11", 2, "1"), ("f() a", "f(1)", "c11", 1, "0"), ("f(a, b) a", "f()", "c11", 1, "2"),
-                ("f(a, b) a", "f((1, 2))", "c11", 1, "2"), ("f(a,\\\nb) a", "f\n( 1,\n2 /* , */,\n\",\", ',')", "c11", 4, "2"),
-                ("f(a, ...) a", "f(1)", "c11", 1, "at least 2"), ("f(a, b, ...) a", "f(1)", "gnu", 1, "at least 2"), ("f(a, b, c...) a", "f(1)", "gnu", 1, "at least 2")):
-            found = self.told("#define %s\n%s\n" % (define, use), 18, profile)
+        for parameters, use, profile, given, wanted in self.ARGUMENTS:
+            found = self.told("#define f(%s) x\nf%s\n" % (parameters, use), 18, profile)
             self.assertEqual(found["message"], "wrong number of arguments of macro f: %d given, %s wanted" % (given, wanted), use)
             self.assertEqual(found["definition"], {"path": "a.c", "line": 1, "column": 9})
 
@@ -389,10 +406,13 @@ class Explained(Faults):
         units = [{"file": "a.c", "define": ["g", "f(a) a"]}]
         self.assertIn("\n<command line>:2:1: note: macro f is defined here\n", self.report({"a.c": "f(1, 2)\n"}, units=units))
 
+    WORDS = (
+        ("inclde", "c11", "; did you mean #include?"), ("elseif", "gnu", "; did you mean #elif?"), ("edif", "c11", "; did you mean #endif?"),
+        ("warnin", "c11", ""), ("warnin", "gnu", "; did you mean #warning?"), ("warning", "c11", "; the profile gnu has it"),
+        ("include_next", "later", "; the profile gnu has it"), ("elifdef", "c11", "; the profile later has it"), ("foo", "gnu", ""), ("1", "c11", ""))
+
     def test_directives(self):
-        for word, profile, more in (("inclde", "c11", "; did you mean #include?"), ("elseif", "gnu", "; did you mean #elif?"), ("edif", "c11", "; did you mean #endif?"),
-                                    ("warnin", "c11", ""), ("warnin", "gnu", "; did you mean #warning?"), ("warning", "c11", "; the profile gnu has it"),
-                                    ("include_next", "later", "; the profile gnu has it"), ("elifdef", "c11", "; the profile later has it"), ("foo", "gnu", ""), ("1", "c11", "")):
+        for word, profile, more in self.WORDS:
             self.assertEqual(self.told("#if 1\n#%s\n#endif\n" % word, 8, profile)["message"], message(8, word) + more)
 
     def test_names_of_directives_are_those_of_the_program(self):
@@ -403,26 +423,29 @@ class Explained(Faults):
             self.assertNotIn(b"\nfault 8 ", self.printed(listed))
 
     def test_one_report_for_a_place(self):
-        files = {"a.c": "#include \"h.h\"\n", "b.c": "#include \"h.h\"\n", "c.c": "#if X\n#include \"h.h\"\n#endif\n", "h.h": "int a;\n#error stop\n"}
-        units = [{"file": "c.c"}, {"file": "b.c"}, {"file": "a.c"}, {"file": "c.c", "define": ["X 1"]}, {"file": "c.c", "define": ["X+1"]},
-                 {"file": "a.c", "define": ["Y 1", "X+1"]}, {"file": "c.c", "define": ["X+1"]}]
+        include = "#include \"h.h\"\n"
+        files = {"a.c": include, "b.c": include, "c.c": "#if X\n%s#endif\n" % include, "h.h": "int a;\n#error stop\n"}
+        units = [{"file": name + ".c", "define": define} for name, *define in (
+            ("c",), ("b",), ("a",), ("c", "X 1"), ("c", "X+1"), ("a", "Y 1", "X+1"), ("c", "X+1"))]
         found = self.members(files, units=units)
         self.assertEqual([(one["path"], one["line"], one["number"], one["unit"], one["source"], one["units"]) for one in found],
                          [("h.h", 2, 34, 1, "b.c", 3), ("<command line>", 1, 12, 4, "c.c", 2), ("<command line>", 2, 12, 5, "a.c", 1)])
         text = self.report(files, units=units)
-        self.assertTrue(text.startswith("In file included from b.c:1:\nh.h:2:1: error: #error stop [fault 34]\n    2 | #error stop\n      | ^\n"
-                                        "note: 3 units end here, the first is b.c\nnote: " + FAULTS[34][2] + "\nIn unit c.c:\n"), text)
+        wanted = ["In file included from b.c:1:", "h.h:2:1: error: #error stop [fault 34]", "    2 | #error stop", "      | ^",
+                  "note: 3 units end here, the first is b.c", "note: " + FAULTS[34][2], "In unit c.c:"]
+        self.assertEqual(text.splitlines()[:7], wanted)
         self.assertEqual(text.count("units end here"), 2)
 
     def test_a_file_that_changed(self):
         """Wants the fault's own place and message if the line isn't there any more."""
-        listed = self.listed({"a.c": "#define f(a) a\nf(1, 2)\n", "b.c": "#if 08\n#endif\n", "c.c": "#if A = 1\n#endif\n"},
-                             [{"file": "a.c"}, {"file": "b.c"}, {"file": "c.c"}])
+        files = {"a.c": "#define f(a) a\nf(1, 2)\n", "b.c": "#if 08\n#endif\n", "c.c": "#if A = 1\n#endif\n"}
+        listed = self.listed(files, [{"file": name} for name in files])
         output = self.printed(listed)
         for text in ("", "\n\n\n", "#define f(a, b) a\nf(1, 2)\n#if 1\n", "#if", "/*", "\"", "\\"):
             write(self.top, {name: text for name in ("a.c", "b.c", "c.c")})
             found = self.report_of(listed, output)
-            self.assertEqual([one[1:3] + one[4:] for one in FIRST.findall(found)], [("2", "1", "18"), ("1", "1", "24"), ("1", "1", "23")], text)
+            places = [one[1:3] + one[4:] for one in FIRST.findall(found)]
+            self.assertEqual(places, [("2", "1", "18"), ("1", "1", "24"), ("1", "1", "23")], text)
             self.assertIn("error: " + message(18, "f") + " [", found)
 
 

@@ -418,19 +418,20 @@ class Shards(Folder):
         ends = [found.start() for found in re.finditer(b"^unit ", whole, re.M)] + [0, len(whole) - 20, len(whole) - 1]
         for end in ends:
             write(self.top, {outputs[1]: whole[:end]})
-            self.assertRegex(self.refused(*outputs), r"^shards/001.out(: the end is missing: its last unit isn't the mark|, line \d+: the output is cut off)")
+            reason = r"^shards/001.out(: the end is missing: its last unit isn't the mark|, line \d+: the output is cut off)"
+            self.assertRegex(self.refused(*outputs), reason)
 
     def test_bytes_that_no_output_has(self):
         outputs = self.outputs(6, 2)
         whole = read(self.top, outputs[1])
         good, at = b"tok 1:2:5 1:2:5 i+ u3\n", whole.index(b"tok ")
         before, after = whole[:at], whole[at:]
-        for line in (b"tok 1:2:5 1:2:5 i+ u%s\n" % (b"\0" * 10000), good.replace(b"u3", b""), good.replace(b"u3", b"%41"), good.replace(b"u3", b"\xe9"),
-                     good.replace(b"u3", b"%e9"), good.replace(b"u3", b"50%"), good.replace(b"i+", b"h+"), good.replace(b"1:2:5", b"1:2"),
-                     good.replace(b"tok", b"tok "), b"prag 1:2\n", b"tok \n", b"dep 1\n", b"dep 1 a.c\n", b"fault 34\n", b"ok \n", b"\n",
-                     good.replace(b"u3", b"u3\r")):
+        lines = [good.replace(b"u3", word) for word in (b"\0" * 10000, b"", b"%41", b"%e9", b"50%", b"\xe9", b"u3\r")]
+        lines += [good.replace(*words) for words in ((b"i+", b"h+"), (b"1:2:5", b"1:2"), (b"tok", b"tok "))]
+        for line in lines + [b"prag 1:2\n", b"tok \n", b"dep 1\n", b"dep 1 a.c\n", b"fault 34\n", b"ok \n", b"\n"]:
             write(self.top, {outputs[1]: before + line + after})
-            self.assertRegex(self.refused(*outputs), r"^shards/001.out(, line \d+: no line|: unit \d has a line) that cppunits (doesn't print|prints)", line)
+            reason = r"^shards/001.out(, line \d+: no line that cppunits prints|: unit \d has a line that cppunits doesn't print)"
+            self.assertRegex(self.refused(*outputs), reason, line)
         write(self.top, {outputs[1]: b"\0" * 100000})
         self.assertEqual(self.refused(*outputs), "shards/001.out, line 1: the output is cut off")
         write(self.top, {outputs[1]: before + good.replace(b"u3", b"%E9%25%7F%00~ ") + after})
@@ -460,8 +461,8 @@ class Shards(Folder):
 
     def test_lists_that_no_cut_can_mark(self):
         one = {"file": "a.c"}
-        write(self.top, {"none.json": json.dumps(dict(LIST, files=[], units=[])), "odd.json": json.dumps(dict(LIST, files=[{"text": ""}], units=[])),
-                         "many.json": json.dumps(dict(LIST, files=[{"name": "a.c", "text": ""}], units=[one] * 65535))})
+        lists = {"none": ([], []), "odd": ([{"text": ""}], []), "many": ([{"name": "a.c", "text": ""}], [one] * 65535)}
+        write(self.top, {name + ".json": json.dumps(dict(LIST, files=files, units=units)) for name, (files, units) in lists.items()})
         for name, reason in (("none", "none.json: files[0] is to have a name"), ("odd", "odd.json: files[0] is to have a name"),
                              ("many", "1 parts are too few: with its mark a part has at most 65535 units")):
             done = script("shards.py", "cut", "1", name + ".json", cwd=self.top)

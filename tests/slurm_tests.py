@@ -251,7 +251,8 @@ class Tasks(Array):
         self.assertEqual(script("shards.py", "cut", str(PARTS), "list.json", cwd=self.top).returncode, 0)
         self.assertEqual(self.end(self.begin(0)), (0, b""))
         done = script("shards.py", "join", *self.outputs(), cwd=self.top)
-        self.assertEqual((done.returncode, done.stdout, done.stderr), (3, b"", b"shards.py: shards/001.out: it is a part of another list\n"))
+        self.assertEqual((done.returncode, done.stdout), (3, b""))
+        self.assertEqual(done.stderr, b"shards.py: shards/001.out: it is a part of another list\n")
         self.all()
         self.compare()
 
