@@ -332,7 +332,7 @@ class Lists(Builds):
     def test_names_that_are_not_there_are_told_where_a_unit_faults(self):
         write(self.top, {"a.c": "#if 0\n#include <none.h>\n#endif\n", "b.c": "\n#include \"gone%d.h\"\n"})
         printed, messages = self.build("faults", ["gcc -c a.c", ("gcc -c b.c", "b.c")], status=1)
-        self.assertEqual(printed.splitlines()[:2], ["b.c:2:1: error: no such file: gone%d.h [fault 31]", "    2 | #include \"gone%d.h\""])
+        self.assertEqual(printed.splitlines()[:2], ["b.c:2:10: error: no such file: gone%d.h [fault 31]", "    2 | #include \"gone%d.h\""])
         self.assertRegex("\n".join(messages), r"^build.py: 2 units, 1 with a fault, 2 files \(2 on the list\), \S+ seconds$")
 
     def test_the_lines_above_a_fault(self):
