@@ -258,7 +258,7 @@ class Tasks(Array):
 
 
 class Slurm(Array):
-    cluster = None
+    cluster, refusal = None, None
 
     def setUp(self):
         missed("munged", "slurmctld", "slurmd", "sbatch")
@@ -267,6 +267,8 @@ class Slurm(Array):
         super().setUp()
         if Slurm.cluster is None:
             self.start()
+        if Slurm.refusal:
+            raise unittest.SkipTest(Slurm.refusal)
         Slurm.cluster.alive()
         self.environment["SLURM_CONF"] = self.cluster.environment["SLURM_CONF"]
 
@@ -276,7 +278,10 @@ class Slurm(Array):
         self.addClassCleanup(shutil.rmtree, top)
         Slurm.cluster = Cluster(top)
         self.addClassCleanup(self.cluster.stop)
-        self.cluster.start()
+        try:
+            self.cluster.start()
+        except AssertionError as reason:
+            Slurm.refusal = "no cluster starts here: %s" % reason
 
     def slurm(self, *command):
         return well(command, cwd=self.top, env=self.environment, timeout=PATIENCE).decode()
