@@ -178,22 +178,23 @@ impl<'x> Replacer<'x> {
         ensures known { OnOk result (AllKnown self.new.sets list.new) }
         ensures keeps { KeepsSets self.old.sets self.new.sets }
     {
-        let alloc = self.pool.alloc();
+        let room = self.pool.list(0)?;
         let name = MacroName {
             base,
             name: name_token.text(),
             used: name_token.used(),
             space: name_token.space(),
         };
-        let (tokens, pending) = substitute_pattern(
-            alloc,
+        let (mut tokens, pending) = substitute_pattern(
+            room,
             pattern,
             arguments,
             &name,
             &mut self.sets,
         )?;
         list.space_next(pending);
-        list.push_all(tokens)?;
+        list.push_all(&mut tokens)?;
+        self.pool.keep_list(tokens);
         Ok(())
     }
 

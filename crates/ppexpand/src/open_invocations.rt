@@ -139,7 +139,7 @@ fn copy_if_open<'x>(
     if take_invocation(sets, list, &mut taken)? {
         put_clones(&mut copy, taken.as_slice())?;
     }
-    list.push_all(taken)?;
+    list.push_all(&mut taken)?;
     Ok(copy)
 }
 
@@ -200,8 +200,8 @@ impl<'x> Expander<'x> {
                 list,
                 emitted,
             )?;
-            unclosed.clear();
             if list.is_empty() {
+                unclosed.clear();
                 return Ok(());
             }
             *unclosed = copy_open_invocation(

@@ -125,13 +125,12 @@ impl<'a> TokenStack<'a> {
         push(&mut self.pushed, hidden)
     }
 
-    /// Pushes tokens, the last one first.
-    pub(crate) fn push_all(&mut self, tokens: Vec<Hidden<'a>>) -> Result<(), Memory>
-        ensures { OnOk result (self.new ≡ tokens.entry.items ++ self.old) }
+    /// Pushes the tokens of a vector, the last one first.
+    pub(crate) fn push_all(&mut self, tokens: &mut Vec<Hidden<'a>>) -> Result<(), Memory>
+        ensures { OnOk result (self.new ≡ tokens.old.items ++ self.old) }
     {
-        let mut tokens = tokens;
         tokens.reverse();
-        self.pushed.append(&mut tokens)?;
+        self.pushed.append(tokens)?;
         Ok(())
     }
 

@@ -240,9 +240,9 @@ fn space_before(pending: bool, first: bool, own: bool) -> bool
     pending || (!first && own)
 }
 
-/// Returns the tokens of all chains, and the leading-space flag that is pending afterwards.
+/// Returns the tokens of all chains, in the vector `room`, and the leading-space flag that is pending afterwards.
 pub(crate) fn chains_tokens<'x, 'a: 'x>(
-    alloc: Global,
+    room: Vec<Hidden<'x>>,
     sets: &mut HideSets,
     arguments: Arguments<'_, 'x>,
     used: Place,
@@ -255,7 +255,9 @@ pub(crate) fn chains_tokens<'x, 'a: 'x>(
     ensures known { IfOk result (λ m. AllKnown sets.new m.0.items) }
     ensures keeps { KeepsSets sets.old sets.new }
 {
-    let mut tokens = Vec::with_capacity(alloc, chains.len())?;
+    let mut tokens = room;
+    tokens.clear();
+    tokens.reserve(chains.len())?;
     let mut pending = space;
     let mut first = true;
     for index in 0..chains.len() {
@@ -269,7 +271,7 @@ pub(crate) fn chains_tokens<'x, 'a: 'x>(
 
 /// Returns what `substitute_pattern` returns for a list with `#` or `##`.
 pub(crate) fn substitute_chains<'x, 'a: 'x>(
-    alloc: Global,
+    room: Vec<Hidden<'x>>,
     chains: &PastedList<'_, 'a>,
     arguments: Arguments<'_, 'x>,
     macro_name: &MacroName,
@@ -289,7 +291,7 @@ pub(crate) fn substitute_chains<'x, 'a: 'x>(
         used,
         space,
     } = *macro_name;
-    let (mut tokens, pending) = chains_tokens(alloc, sets, arguments, used, space, chains)?;
+    let (mut tokens, pending) = chains_tokens(room, sets, arguments, used, space, chains)?;
     hsadd_names(sets, &mut tokens, base, name, used)?;
     Ok((tokens, pending))
 }

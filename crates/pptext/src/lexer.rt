@@ -32,7 +32,7 @@ use std::marker::Model;
 
 /// The lexeme that begins a text, with its length in bytes, or a comment that isn't closed.
 #[derive(Clone, Copy)]
-pub(crate) enum LeadingLexeme {
+pub enum LeadingLexeme {
     /// A new-line.
     NewLine,
     /// Consecutive blanks.

@@ -30,7 +30,8 @@ pub use laws::{
     one_reading, one_tokenization, one_tree, relexes_tokens, some_reading, tests_are_languages,
     tokenizes_unless_unclosed, tree_unless_fault, which_group_fault,
 };
-pub use reading::{read_source, relex};
+pub use lexer::LeadingLexeme;
+pub use reading::{leading_lexeme, read_source, relex};
 pub use scanning::continuing::continues;
 pub use sequences::Sequence;
 pub use sources::{Directive, LONGEST, Line, Profile, Source};

@@ -1,5 +1,7 @@
 //! The entry points: read a file, and read a text as one token.
-ghost use Rattle.std.specs.Prelude.{◌≡◌, ◌↔◌, ◌≤◌, ℕ, List, length, IsTrue, IfSome, IfNone};
+ghost use Rattle.std.specs.Prelude.{◌≡◌, ◌↔◌, ◌<◌, ◌≤◌, ℕ, List, [], length, IsTrue, IfSome, IfNone};
+ghost use Rattle.pptext.specs.declared.sources.Profile.TheVariants.{C11};
+ghost use Rattle.pptext.specs.code.FoundLexemes.{FindsLexeme, found_lexeme};
 ghost use Rattle.pptext.specs.Clean.{longest};
 ghost use Rattle.pptext.specs.declared.tokens.Kind.{Kind};
 ghost use Rattle.pptext.specs.Errors.{UnlessOutOfMemory};
@@ -116,4 +118,12 @@ pub fn relex(text: &[u8]) -> Option<Kind>
         return None;
     }
     Some(kind)
+}
+
+/// Returns the lexeme that begins a text that no header name begins. Consecutive blanks count as one. Allocates nothing.
+pub fn leading_lexeme(text: &[u8]) -> LeadingLexeme
+    requires { 0 < length text.now }
+    ensures { FindsLexeme C11 [] text.now (found_lexeme result) }
+{
+    next_lexeme(text, &[], Profile::C11).prefix
 }

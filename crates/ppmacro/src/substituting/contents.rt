@@ -141,7 +141,8 @@ fn contents_tokens<'x, 'a: 'x>(
     let mut lists = Vec::with_capacity(alloc, list.content_count())?;
     for index in 0..list.content_count() {
         let content = list.content(index);
-        let (tokens, _) = chains_tokens(alloc, sets, arguments, used, false, &content)?;
+        let room = Vec::new(alloc);
+        let (tokens, _) = chains_tokens(room, sets, arguments, used, false, &content)?;
         lists.push(tokens)?;
     }
     Ok(lists)
@@ -149,7 +150,7 @@ fn contents_tokens<'x, 'a: 'x>(
 
 /// Returns what `substitute_va_opt` returns if the variable argument has tokens.
 fn substitute_filled<'x, 'a: 'x>(
-    alloc: Global,
+    room: Vec<Hidden<'x>>,
     list: &VaOptList<'_, 'a>,
     arguments: Arguments<'_, 'x>,
     macro_name: &MacroName,
@@ -163,19 +164,20 @@ fn substitute_filled<'x, 'a: 'x>(
     ensures known { IfOk result (λ m. AllKnown sets.new m.0.items) }
     ensures keeps { KeepsSets sets.old sets.new }
 {
+    let alloc = *room.allocator();
     let lists = contents_tokens(alloc, sets, arguments, macro_name.used, list)?;
     let all = with_contents(alloc, arguments, lists.as_slice())?;
     let arguments = Arguments {
         given: all.given.as_slice(),
         expanded: all.expanded.as_slice(),
     };
-    substitute_chains(alloc, &list.if_filled(), arguments, macro_name, sets)
+    substitute_chains(room, &list.if_filled(), arguments, macro_name, sets)
 }
 
 /// Returns what `substitute_pattern` returns for a list with `__VA_OPT__`.
 #[inline(never)]
 pub(crate) fn substitute_va_opt<'x, 'a: 'x>(
-    alloc: Global,
+    room: Vec<Hidden<'x>>,
     list: &VaOptList<'_, 'a>,
     arguments: Arguments<'_, 'x>,
     macro_name: &MacroName,
@@ -191,7 +193,7 @@ pub(crate) fn substitute_va_opt<'x, 'a: 'x>(
 {
     let variable = expansion(arguments.given, arguments.expanded, list.variadic());
     if variable.is_empty() {
-        return substitute_chains(alloc, &list.if_empty(), arguments, macro_name, sets);
+        return substitute_chains(room, &list.if_empty(), arguments, macro_name, sets);
     }
-    substitute_filled(alloc, list, arguments, macro_name, sets)
+    substitute_filled(room, list, arguments, macro_name, sets)
 }

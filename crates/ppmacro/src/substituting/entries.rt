@@ -19,7 +19,6 @@ use crate::substituting::hsadd::hsadd_names;
 use crate::substituting::operands::expansion;
 use crate::substituting::{push_spaced, push_token, space_before, substitute_chains};
 use pptext::{Error, Memory};
-use std::alloc::Global;
 
 /// Returns the leading-space flag of an entry.
 fn space_of(entry: &Entry) -> bool
@@ -79,9 +78,9 @@ fn push_entry<'x, 'a: 'x>(
     }
 }
 
-/// Returns the tokens of all entries, and the leading-space flag that is pending afterwards.
+/// Returns the tokens of all entries, in the vector `room`, and the leading-space flag that is pending afterwards.
 fn entries_tokens<'x, 'a: 'x>(
-    alloc: Global,
+    room: Vec<Hidden<'x>>,
     sets: &HideSets,
     arguments: Arguments<'_, 'x>,
     space: bool,
@@ -92,7 +91,9 @@ fn entries_tokens<'x, 'a: 'x>(
         ≡ chains_tokens (arguments_in sets.now arguments.entry.given.now arguments.entry.expanded.now) used space true (map entry_chain list.now)) }
     ensures known { IfOk result (λ m. AllKnown sets.now m.0.items) }
 {
-    let mut tokens = Vec::with_capacity(alloc, count_all(arguments, list))?;
+    let mut tokens = room;
+    tokens.clear();
+    tokens.reserve(count_all(arguments, list))?;
     let mut pending = space;
     let mut first = true;
     for index in 0..list.len() {
@@ -106,7 +107,7 @@ fn entries_tokens<'x, 'a: 'x>(
 
 /// Returns the replacement of an invocation, and the leading-space flag that is pending afterwards.
 fn substitute_entries<'x, 'a: 'x>(
-    alloc: Global,
+    room: Vec<Hidden<'x>>,
     list: &PlainList<'_, 'a>,
     arguments: Arguments<'_, 'x>,
     macro_name: &MacroName,
@@ -126,18 +127,18 @@ fn substitute_entries<'x, 'a: 'x>(
         used,
         space,
     } = *macro_name;
-    let (mut tokens, pending) = entries_tokens(alloc, sets, arguments, space, list)?;
+    let (mut tokens, pending) = entries_tokens(room, sets, arguments, space, list)?;
     hsadd_names(sets, &mut tokens, base, name, used)?;
     Ok((tokens, pending))
 }
 
 /// Returns what a macro's name or invocation is replaced by (6.10.3.1 to 6.10.3.3), and whether white space is pending for the
-/// token after it. `pattern` is the replacement list of the macro.
+/// token after it. `pattern` is the replacement list of the macro. The tokens are in the vector `room`, which loses what it has.
 ///
 /// If a `#` or `##` fails, returns the first of these faults, at the location of the macro name: 19, two pasted tokens aren't
 /// one token, with both spellings as its text; 20, a stringized argument isn't a string literal, with that text.
 pub fn substitute_pattern<'x, 'a: 'x>(
-    alloc: Global,
+    room: Vec<Hidden<'x>>,
     pattern: &Pattern<'_, 'a>,
     arguments: Arguments<'_, 'x>,
     macro_name: &MacroName,
@@ -153,10 +154,10 @@ pub fn substitute_pattern<'x, 'a: 'x>(
 {
     match pattern {
         Pattern::Plain(list) => {
-            let tokens_and_pending = substitute_entries(alloc, list, arguments, macro_name, sets)?;
+            let tokens_and_pending = substitute_entries(room, list, arguments, macro_name, sets)?;
             Ok(tokens_and_pending)
         }
-        Pattern::Pasted(chains) => substitute_chains(alloc, chains, arguments, macro_name, sets),
-        Pattern::VaOpt(list) => substitute_va_opt(alloc, list, arguments, macro_name, sets),
+        Pattern::Pasted(chains) => substitute_chains(room, chains, arguments, macro_name, sets),
+        Pattern::VaOpt(list) => substitute_va_opt(room, list, arguments, macro_name, sets),
     }
 }

@@ -1,4 +1,4 @@
--- What the lexer returns: the lexeme that begins a text, and the tokens and lines of a text. Only the contracts of private functions cite this.
+-- What the lexer returns: the lexeme that begins a text, and the tokens and lines of a text. Contracts cite this.
 use Rattle.std.specs.Prelude.{◌≡◌, ℕ, ◌<◌, ◌≤◌, List, [], ◌∷◌, length, Option, None, Some, Result, Ok, Err, IsTrue, slice_index, Bool, not, ◌&&◌, ◌||◌, ◌==◌}
 use Rattle.pptext.specs.declared.tokens.Place.{Place}
 use Rattle.pptext.specs.declared.tokens.Token.{Token}
@@ -6,7 +6,9 @@ use Rattle.pptext.specs.declared.sources.Line.{Line}
 use Rattle.pptext.specs.declared.sources.Profile.{Profile}
 use Rattle.pptext.specs.declared.characters.Char.{Char}
 use Rattle.pptext.specs.Spellings.{is_blank, is_nondigit}
-use Rattle.pptext.specs.Lexemes.{LexemeKind, Blank, IsLexemeAt, OpensBlock, ClosesAt, Lexeme, Tokenizes, Unclosed}
+use Rattle.pptext.specs.declared.lexer.LeadingLexeme.{LeadingLexeme}
+use Rattle.pptext.specs.declared.lexer.LeadingLexeme.TheVariants as leading
+use Rattle.pptext.specs.Lexemes.{LexemeKind, NewLine, Blank, Comment, Spelled, IsLexemeAt, OpensBlock, ClosesAt, Lexeme, Tokenizes, Unclosed}
 use Rattle.pptext.specs.Lines.{lines_of}
 use Rattle.pptext.specs.Sources.{lines_from}
 use Rattle.pptext.specs.code.Grouping.{AreLineSpans}
@@ -34,6 +36,14 @@ abbrev pub FindsLexeme : Profile → List (List ℕ) → List ℕ → Option (Le
 FindsLexeme profile line text None = OpensBlock text × ClosesAt text None
 FindsLexeme profile line text (Some (Blank, n)) = (n ≤ length text) × (0 < n) × AreBlanks n text
 FindsLexeme profile line text (Some (s, n)) = (n ≤ length text) × (0 < n) × IsLexemeAt profile line text n s
+
+-- the kind and length of a leading lexeme
+abbrev pub found_lexeme : LeadingLexeme → Option (LexemeKind × ℕ)
+found_lexeme leading.NewLine = Some (NewLine, 1)
+found_lexeme (leading.Blank n) = Some (Blank, n)
+found_lexeme (leading.Comment n) = Some (Comment, n)
+found_lexeme leading.Unclosed = None
+found_lexeme (leading.Token k n) = Some (Spelled k, n)
 
 -- a text is tokenized into these tokens and lines, or a comment that opens at a location is not closed
 abbrev pub TokenizesInto : Profile → List Char → List Token → List Line → Result (Unit {0}) Place → Type 0

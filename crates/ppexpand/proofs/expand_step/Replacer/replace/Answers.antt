@@ -14,7 +14,7 @@ use Rattle.ppexpand.proofs.expand_step.Replacer.replace.Goals as goal
 pub returns-in_err-tokens-clause-is : goal.returns-in_err-tokens-clause-is
 returns-in_err-tokens-clause-is c =
     let s = c.args.self.now.sets in
-    raises _ _ _ _ _ c.from_residual.ensures.1 c.in_err-tokens.ensures.is (λ f same. ap (λ r. replaced_by r (hidings s c.args.list.now))
+    raises _ _ _ _ _ c.from_residual-in_err-tokens.ensures.1 c.in_err-tokens.ensures.is (λ f same. ap (λ r. replaced_by r (hidings s c.args.list.now))
     (same
     ∙ (λ i. replacement_by (pattern_chains c.args.pattern.now) (arguments_in s c.args.arguments.given.now c.args.arguments.expanded.now)
     (set.insert (set_at s c.args.base) (c.text.ensures i)) (c.used.ensures i) (c.space.ensures i))))
