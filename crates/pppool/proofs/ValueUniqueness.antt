@@ -1,12 +1,12 @@
 -- Units' values are unique, and stay so over more files. If all files are known, units have values.
-use Rattle.std.proofs.Common.{◌≡◌, ℕ, suc, ◌<◌, List, [], ◌∷◌, length, map, refl, sym, ap, ◌∙◌, subst, arith}
+use Rattle.std.proofs.Common.{◌≡◌, ℕ, suc, List, [], ◌∷◌, length, map, refl, sym, ap, ◌∙◌, subst, arith}
 use Rattle.std.proofs.lemmas.List.Elements.{All-head}
 use Rattle.ppshelf.specs.Names.{AreNames}
 use Rattle.ppshelf.specs.Files.{Files, Extends}
 use Rattle.ppunit.specs.declared.units.Unit.{Unit as UnitOfList}
 use Rattle.ppunit.specs.declared.units.Setting.{Setting}
 use Rattle.ppunit.specs.declared.units.UnitOut.{UnitOut}
-use Rattle.ppunit.specs.Unit.{IsUnit}
+use Rattle.ppunit.specs.Unit.{IsUnit, HasRows}
 use Rattle.ppunit.specs.Units.{AreUnits}
 use Rattle.ppunit.specs.Laws.{HasOneValue, HasSomeValue, Grows}
 use Rattle.pppool.specs.Retained.{AreRetained, retained}
@@ -57,6 +57,6 @@ module _ (one : HasOneValue) (grows : Grows) where
 pub some_list : HasSomeValue → HasSomeValues
 some_list some names files setting [] knows within = ([], tt)
 some_list some names files setting (unit ∷ units) knows within =
-    let here = some names files setting unit knows (All-head (λ (u : UnitOfList). u.file < length names) unit units within) in
+    let here = some names files setting unit knows (All-head (HasRows (length names)) unit units within) in
     let rest = some_list some names files setting units knows (λ k d below. within (suc k) d (omega arith)) in
     (here.0 ∷ rest.0, (here.1, rest.1))

@@ -1,12 +1,12 @@
 -- Theorems about the values of a list.
-use Rattle.std.specs.Prelude.{◌≡◌, ◌↔◌, ℕ, ◌<◌, List, length, All}
+use Rattle.std.specs.Prelude.{◌≡◌, ◌↔◌, ℕ, List, length, All}
 use Rattle.std.specs.List.{AllZip}
 use Rattle.ppshelf.specs.Names.{AreNames}
 use Rattle.ppshelf.specs.Files.{Files, Extends, Agree}
 use Rattle.ppunit.specs.declared.units.Unit.{Unit as UnitOfList}
 use Rattle.ppunit.specs.declared.units.Setting.{Setting}
 use Rattle.ppunit.specs.declared.units.UnitOut.{UnitOut}
-use Rattle.ppunit.specs.Unit.{IsUnit}
+use Rattle.ppunit.specs.Unit.{IsUnit, HasRows}
 use Rattle.ppunit.specs.Units.{AreUnits}
 use Rattle.ppunit.specs.Laws.{KnowsAll}
 use Rattle.pppool.specs.declared.retention.Retain.{Retain}
@@ -50,5 +50,5 @@ abbrev pub HasSomeValues : Type 0
 HasSomeValues =
     (names : List (List ℕ)) (files : Files) (setting : Setting) (units : List UnitOfList)
     → KnowsAll names files
-    → All (λ unit. unit.file < length names) units
+    → All (HasRows (length names)) units
     → (results : List UnitOut) × AreUnits names files setting units results

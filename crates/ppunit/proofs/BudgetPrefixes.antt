@@ -60,14 +60,13 @@ unit_caps : HasOneValue → Grows → OnlyBudgetsRefuse
     → CapsUnit b (count p) whole out
 unit_caps one grows only names files setting unit out are p b more whole budget extends q =
     let context : Context = context_of_unit names more setting unit in
-    let texts : List (List ℕ) = unit.defines.texts in
     let start : State = initial_state (unlimited setting) in
     let c : ℕ = count q in
     let there : IsUnit names more setting unit out = (grows names files more setting unit out extends p).0 in
-    let same : (r : Progress) → Translates context texts unit.file (budgeted start b) r → output r ≡ out =
+    let same : (r : Progress) → Translates context unit (budgeted start b) r → output r ≡ out =
     λ r d.
     let within : IsUnit names more setting unit (output r) =
-    record { progress = r; translates = subst (λ l. Translates context texts unit.file (with_meter start (new_meter l)) r) (sym budget) d; is_output = refl } in
+    record { progress = r; translates = subst (λ l. Translates context unit (with_meter start (new_meter l)) r) (sym budget) d; is_output = refl } in
     (one names more setting unit (output r) out are within there).0 in
     elim (dec_lt b c) [
       | yes less ↦
@@ -110,7 +109,7 @@ no_less_here one names files setting unit b wide out more are most p q =
     let here : Setting = with_budget setting (Some b) in
     let c : ℕ = count q in
     let covers : Covers wide b = covers_at_most wide b most in
-    let same : (r : Progress) → Translates context unit.defines.texts unit.file (initial_state here) r → output r ≡ out =
+    let same : (r : Progress) → Translates context unit (initial_state here) r → output r ≡ out =
     λ r d. (one names files here unit (output r) out are (record { progress = r; translates = d; is_output = refl }) p).0 in
     elim (dec_lt b c) [
       | yes less ↦

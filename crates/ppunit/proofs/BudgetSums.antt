@@ -1,5 +1,5 @@
 -- The budget is the count of phase 4 plus the remaining budget.
-use Rattle.std.proofs.Common.{take, drop, codes, ◌≡◌, ℕ, zero, suc, ◌+◌, ◌-◌, List, Bool, true, false, Option, Some, None, Result, Ok, Err, refl, sym, ap, ◌∙◌, arith}
+use Rattle.std.proofs.Common.{take, drop, codes, ◌≡◌, ℕ, zero, suc, ◌+◌, ◌-◌, List, [], ◌∷◌, length, Bool, true, false, Option, Some, None, Result, Ok, Err, refl, sym, ap, ◌∙◌, arith}
 use Rattle.pptext.specs.declared.tokens.Place.{Place}
 use Rattle.pptext.specs.declared.tokens.Token.{Token}
 use Rattle.pptext.specs.declared.tokens.Fault.{Fault}
@@ -18,7 +18,7 @@ use Rattle.ppshelf.specs.Files.{Files}
 use Rattle.ppunit.specs.declared.units.Unit.{Unit as UnitOfList}
 use Rattle.ppunit.specs.declared.units.Setting.{Setting}
 use Rattle.ppunit.specs.declared.units.UnitOut.{UnitOut}
-use Rattle.ppunit.specs.States.{State, Context, Progress, Search}
+use Rattle.ppunit.specs.States.{State, Context, Progress, Search, Opening}
 use Rattle.ppunit.specs.DirectiveLines.{operands, text_tokens}
 use Rattle.ppunit.specs.Including.{IncludeName, begins_with_header, name_of_header, name_of_expansion}
 use Rattle.ppunit.specs.Probing.{begins_with, NamesOperand, Probes, ProbesBy, ProbesLine}
@@ -27,12 +27,17 @@ use Rattle.ppunit.specs.Directives.{EmitsText, NamesHeaderBy, NamesHeader, Execu
 use Rattle.ppunit.specs.Group.{ExecutesGroup, ExecutesBranches, ExecutesControlLine, ExecutesInclude, OpensFile}
 use Rattle.ppunit.specs.Counts.{counted_before, count_decides, count_names_header_by, count_names_header, count_names_operand, count_probes, count_probes_by}
 use Rattle.ppunit.specs.Counts.{count_probes_line, count_value, count_control_by, count_group, count_branches, count_control, count_includes, count_opening}
-use Rattle.ppunit.specs.Unit.{Defines, unread, processed, Translates, definitions_fault, translated, IsUnit, count, count_defines, count_translates}
+use Rattle.ppunit.specs.Unit.{Defines, unread, processed, Translates, definitions_fault, translated, IsUnit, count, count_defines, count_translates, OpensFirst, all_read, first_fault, first_read}
+use Rattle.ppunit.specs.Unit.{before_first, main_name, fault_before_main, count_first}
 use Rattle.ppunit.specs.Capped.{AtMost}
 use Rattle.ppunit.specs.code.Effects.{HasEffect}
+use Rattle.ppunit.specs.declared.units.FirstFile.{FirstFile}
+use Rattle.ppunit.specs.declared.units.Unit.{Unit as UnitOfList}
+use Rattle.ppunit.specs.Directives.{at_end}
 use Rattle.ppunit.proofs.DirectiveEffects.{effect_of, count_effect, same_count}
-use Rattle.ppunit.proofs.WaitingInvocations.{nothing_waits, WaitsIn, run_waits, group_waits, branches_waits, control_waits, defines_waits}
+use Rattle.ppunit.proofs.WaitingInvocations.{nothing_waits, WaitsIn, run_waits, group_waits, branches_waits, control_waits, defines_waits, opened_waits, first_waits, named_waits}
 use Rattle.ppunit.proofs.TextBudgets.{counts_before, spent_at_text}
+use Rattle.ppunit.proofs.KeptItems.{leaves_by}
 
 -- ---- sums
 
@@ -178,25 +183,53 @@ module _ (context : Context) where
     includes_spend w (ExecutesInclude.included {s = s} {line = line} {meter_after = meter_after} a found asks finds opens) =
         both _ _ _ (asks_spends s line.tokens meter_after (Ok a) asks) (opened_spends w opens)
 
-    pub opened_spends : {depth row : ℕ} {directory : Option ℕ} {at : Place} {s : State} {m : Progress} → WaitsIn s
-        → (d : OpensFile context depth at s row directory m)
+    pub opened_spends : {depth row : ℕ} {how : Opening} {at : Place} {s : State} {m : Progress} → WaitsIn s
+        → (d : OpensFile context depth at s row how m)
         → s.meter.remaining ≡ plus (count_opening d) m.state.meter.remaining
     opened_spends w (OpensFile.too_deep {s = s} deep) = plus-nothing s.meter.remaining
     opened_spends w (OpensFile.exhausted {s = s} fits spent) = plus-nothing s.meter.remaining
     opened_spends w (OpensFile.not_read_again {s = s} fits more once) = pays s.meter more
     opened_spends w (OpensFile.not_readable {s = s} fits more once file) = pays s.meter more
     opened_spends w (OpensFile.content_fault {s = s} fits more once file reads) = pays s.meter more
-    opened_spends w (OpensFile.read {s = s} {m = m} fits more once file reads tree here) = pays_then s.meter m.state.meter _ more (group_spends w here)
+    opened_spends {how = how} w (OpensFile.read {s = s} {m = m} fits more once file reads tree here) =
+        leaves_by (λ (z : Progress). s.meter.remaining ≡ plus (suc (count_group here)) z.state.meter.remaining) s how (at_end m)
+        (λ items. pays_then s.meter m.state.meter _ more (group_spends w here))
 
   pub defines_spends : {defines : List (List ℕ)} {s : State} {m : Progress} → WaitsIn s → (d : Defines context defines s m)
       → s.meter.remaining ≡ plus (count_defines d) m.state.meter.remaining
   defines_spends w (unread {s = s} reads) = plus-nothing s.meter.remaining
   defines_spends w (processed reads tree here) = group_spends w here
 
-  pub unit_spends : {defines : List (List ℕ)} {row : ℕ} {s : State} {m : Progress} → WaitsIn s → (d : Translates context defines row s m)
+  pub first_spends : {main number : ℕ} {s : State} {files : List FirstFile} {m : Progress} → WaitsIn s → (d : OpensFirst context main number s files m)
+      → s.meter.remaining ≡ plus (count_first d) m.state.meter.remaining
+  first_spends w (all_read {s = s}) = plus-nothing s.meter.remaining
+  first_spends w (first_fault opens) = opened_spends w opens
+  first_spends w (first_read opens rest) = both _ _ _ (opened_spends w opens) (first_spends (opened_waits context w opens) rest)
+
+  -- naming the unit's own file spends nothing
+  pub named_spends : (main : ℕ) (name : List ℕ) (files : List FirstFile) (s : State) → (before_first main name files s).meter ≡ s.meter
+  named_spends main name [] s = refl
+  named_spends main name (file ∷ files) s = refl
+
+  pub before_main_spends : (unit : UnitOfList) (s : State) {m : Progress} → WaitsIn s
+      → (d : OpensFirst context unit.file (suc (length unit.defines.texts)) (before_first unit.file (main_name context.names unit) unit.first s) unit.first m)
+      → s.meter.remaining ≡ plus (count_first d) m.state.meter.remaining
+  before_main_spends unit s w d =
+      ap (λ (z : Meter). z.remaining) (sym (named_spends unit.file (main_name context.names unit) unit.first s))
+      ∙ first_spends (named_waits context unit.file (main_name context.names unit) unit.first s w) d
+
+  pub before_main_waits : (unit : UnitOfList) (s : State) {m : Progress} → WaitsIn s
+      → OpensFirst context unit.file (suc (length unit.defines.texts)) (before_first unit.file (main_name context.names unit) unit.first s) unit.first m
+      → WaitsIn m.state
+  before_main_waits unit s w d = first_waits context (named_waits context unit.file (main_name context.names unit) unit.first s w) d
+
+  pub unit_spends : {unit : UnitOfList} {s : State} {m : Progress} → WaitsIn s → (d : Translates context unit s m)
       → s.meter.remaining ≡ plus (count_translates d) m.state.meter.remaining
   unit_spends w (definitions_fault here) = defines_spends w here
-  unit_spends w (translated here opens) = both _ _ _ (defines_spends w here) (opened_spends (defines_waits context w here) opens)
+  unit_spends {unit} w (fault_before_main {t = t} here first) = both _ _ _ (defines_spends w here) (before_main_spends unit t (defines_waits context w here) first)
+  unit_spends {unit} w (translated {t = t} here first opens) =
+      let waits = defines_waits context w here in
+      both _ _ _ (defines_spends w here) (both _ _ _ (before_main_spends unit t waits first) (opened_spends (before_main_waits unit t waits first) opens))
 
 -- ---- units
 

@@ -9,6 +9,7 @@ use Rattle.pptext.specs.Lines.{LogicalLine}
 use Rattle.pptext.specs.Tree.{hash_place}
 use Rattle.ppexpand.specs.declared.meter.Meter.{Meter}
 use Rattle.ppshelf.specs.Names.{AreNames}
+use Rattle.ppunit.specs.ShownNames.{opening_of}
 use Rattle.ppunit.specs.Including.{IncludeName}
 use Rattle.ppunit.specs.States.{State, Context, Progress, running, stopped, with_meter}
 use Rattle.ppunit.specs.DirectiveLines.{operands, line_fault}
@@ -166,7 +167,7 @@ module _ (expansions : OneExpansion) (decisions : OneDecision) (rows : OneRow) (
       → NamesHeader s line.tokens meter_after (Ok a)
       → FindsFile context row start a (Some found)
       → ExecutesInclude context depth row start s line m
-      → OpensFile context (suc depth) (hash_place line.tokens) (with_meter s meter_after) found.0 (Some found.1) m
+      → OpensFile context (suc depth) (hash_place line.tokens) (with_meter s meter_after) found.0 (opening_of context row s line a found) m
   after_included {s = s} {line = line} {meter_after = meter_after} a found asks finds (ExecutesInclude.operand_fault {meter_after = following} {f = f} asks') =
       let one : Ok a ≡ Err f = (asks_once expansions decisions s line.tokens meter_after following (Ok a) (Err f) asks asks').0 in absurd (cc)
   after_included {row = row} {start = start} {s = s} {line = line} {meter_after = meter_after} a found asks finds (ExecutesInclude.missing {meter_after = following} b asks' finds') =
@@ -178,5 +179,7 @@ module _ (expansions : OneExpansion) (decisions : OneDecision) (rows : OneRow) (
       let one : Some found ≡ Some other = finds_once row start b (Some found) (Some other) (subst (λ x. FindsFile context row start x (Some found)) same finds) finds' in
       let same_row : other ≡ found = cc in
       let remainders = sym (asks_once expansions decisions s line.tokens meter_after following (Ok a) (Ok b) asks asks').1 in
-      subst (λ (x : Meter). OpensFile context (suc depth) (hash_place line.tokens) (with_meter s x) found.0 (Some found.1) m) remainders
-      (subst (λ (x : ℕ × ℕ). OpensFile context (suc depth) (hash_place line.tokens) (with_meter s following) x.0 (Some x.1) m) same_row opens)
+      let named : OpensFile context (suc depth) (hash_place line.tokens) (with_meter s following) other.0 (opening_of context row s line a other) m =
+      subst (λ (x : IncludeName). OpensFile context (suc depth) (hash_place line.tokens) (with_meter s following) other.0 (opening_of context row s line x other) m) (sym same) opens in
+      subst (λ (x : Meter). OpensFile context (suc depth) (hash_place line.tokens) (with_meter s x) found.0 (opening_of context row s line a found) m) remainders
+      (subst (λ (x : ℕ × ℕ). OpensFile context (suc depth) (hash_place line.tokens) (with_meter s following) x.0 (opening_of context row s line a x) m) same_row named)

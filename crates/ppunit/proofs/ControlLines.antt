@@ -6,7 +6,7 @@ use Rattle.pptext.specs.declared.sources.Directive.TheVariants.{Null}
 use Rattle.pptext.specs.Lines.{LogicalLine}
 use Rattle.pptext.specs.Tree.{GroupParts, Control, AreGroupParts, role, role_by, hash_place}
 use Rattle.pptext.specs.Classes.{opens_section, ends_group, class_by}
-use Rattle.ppunit.specs.States.{State, Context, running, Progress, stopped, with_meter}
+use Rattle.ppunit.specs.States.{State, Context, running, Progress, stopped, with_meter, Opening}
 use Rattle.ppunit.specs.Group.{ExecutesGroup, ExecutesControlLine, ExecutesInclude, OpensFile}
 use Rattle.ppshelf.specs.Files.{Files, Extends}
 use Rattle.ppunit.specs.code.Walk.{line_at, EnclosingSections, lines_to_end, AreEnclosingSections, HasPartsAt, Ends, Advances, Passes, PassesFrom, Leads, StepsTo, Steps, restored}
@@ -21,6 +21,7 @@ use Rattle.ppunit.specs.DirectiveLines.{operands}
 use Rattle.ppunit.specs.Directives.{NamesHeader, FindsFile, refusal, or_fault, at_end, checks_quotes, ExecutesDirective}
 use Rattle.ppunit.specs.code.Lines.{directed, line_refusal}
 use Rattle.ppunit.specs.Quotes.{unmatched_quote}
+use Rattle.ppunit.specs.ShownNames.{opening_of}
 use Rattle.pptext.specs.declared.directives.Class.TheVariants as class
 use Rattle.ppexpand.specs.declared.meter.Meter.{Meter}
 
@@ -154,25 +155,27 @@ leads_on context files depth one other t (Ok (Some e)) expansion_step leads = re
   few = leads.few;
   parts = leads.parts;
   tree = leads.tree;
-  group = λ more grows m group. expansion_step more (restored e.outer (at_end m)) (leads.group more grows m group);
+  group = λ more grows m group. expansion_step more (restored e.outer e.resumption (at_end m)) (leads.group more grows m group);
 }
 leads_on context files depth one other t (Err f) expansion_step leads = λ more grows. expansion_step more (stopped t f) (leads more grows)
 
 pub leads_included : (context : Files → Context) (files : Files) (depth deeper row : ℕ) (following : Option ℕ) (found : ℕ × ℕ) (at : Place)
-    (line : LogicalLine) (s t : State) (meter_after : Meter) (a : IncludeName) (r : Result (Option Entered) Fault)
+    (line : LogicalLine) (s t : State) (meter_after : Meter) (a : IncludeName) (how : Opening) (r : Result (Option Entered) Fault)
     → deeper ≡ suc depth
     → at ≡ hash_place line.tokens
     → NamesHeader s line.tokens meter_after (Ok a)
     → ((more : Files) → FindsFile (context more) row following a (Some found))
-    → Leads context files deeper (λ more m. OpensFile (context more) deeper at (with_meter s meter_after) found.0 (Some found.1) m) t r
+    → ((more : Files) → how ≡ opening_of (context more) row s line a found)
+    → Leads context files deeper (λ more m. OpensFile (context more) deeper at (with_meter s meter_after) found.0 how m) t r
     → Leads context files (suc depth) (λ more m. ExecutesInclude (context more) depth row following s line m) t r
-leads_included context files depth deeper row following found at line s t meter_after a r one place asks finds leads =
+leads_included context files depth deeper row following found at line s t meter_after a how r one place asks finds shows leads =
     let u = with_meter s meter_after in
-    let here : Leads context files (suc depth) (λ more m. OpensFile (context more) (suc depth) (hash_place line.tokens) u found.0 (Some found.1) m) t r =
-    subst (λ (z : Place). Leads context files (suc depth) (λ more m. OpensFile (context more) (suc depth) z u found.0 (Some found.1) m) t r) place
-    (subst (λ (z : ℕ). Leads context files z (λ more m. OpensFile (context more) z at u found.0 (Some found.1) m) t r) one leads) in
-    leads_on context files (suc depth) (λ more m. OpensFile (context more) (suc depth) (hash_place line.tokens) u found.0 (Some found.1) m)
-    (λ more m. ExecutesInclude (context more) depth row following s line m) t r (λ more m opened. ExecutesInclude.included a found asks (finds more) opened) here
+    let here : Leads context files (suc depth) (λ more m. OpensFile (context more) (suc depth) (hash_place line.tokens) u found.0 how m) t r =
+    subst (λ (z : Place). Leads context files (suc depth) (λ more m. OpensFile (context more) (suc depth) z u found.0 how m) t r) place
+    (subst (λ (z : ℕ). Leads context files z (λ more m. OpensFile (context more) z at u found.0 how m) t r) one leads) in
+    leads_on context files (suc depth) (λ more m. OpensFile (context more) (suc depth) (hash_place line.tokens) u found.0 how m)
+    (λ more m. ExecutesInclude (context more) depth row following s line m) t r (λ more m opened.
+    ExecutesInclude.included a found asks (finds more) (subst (λ (z : Opening). OpensFile (context more) (suc depth) (hash_place line.tokens) u found.0 z m) (shows more) opened)) here
 
 pub leads_include : (context : Files → Context) (files : Files) (depth row : ℕ) (next : Bool) (directory : Option ℕ) (line : LogicalLine) (s t : State)
     (r : Result (Option Entered) Fault)

@@ -1,5 +1,5 @@
 -- If their budget is too small, lines, groups and units stop with fault 35, after a prefix of their full output.
-use Rattle.std.proofs.Common.{take, drop, codes, ◌≡◌, ℕ, ◌<◌, List, [], ◌++◌, map, Bool, true, false, Option, Some, Result, Ok, Err, refl, sym, ap, ◌∙◌, subst, arith, append-nil, zero, suc, ◌+◌, ◌-◌, ◌≤◌, if◌then◌else◌}
+use Rattle.std.proofs.Common.{take, drop, codes, ◌≡◌, ℕ, ◌<◌, List, [], ◌++◌, map, Bool, true, false, Option, Some, Result, Ok, Err, refl, sym, ap, ◌∙◌, subst, arith, append-nil, zero, suc, ◌+◌, ◌-◌, ◌≤◌, if◌then◌else◌, length}
 use Rattle.std.proofs.lemmas.List.{map-append}
 use Rattle.pptext.specs.declared.tokens.Place.{Place}
 use Rattle.pptext.specs.declared.tokens.Token.{Token}
@@ -13,7 +13,7 @@ use Rattle.ppexpand.specs.Expansion.{count_expansion}
 use Rattle.ppexpand.proofs.BudgetLemmas.{StopsEarly, Covers, expansion_short, covers_less}
 use Rattle.ppexpr.proofs.ConditionBudgets.{condition_short}
 use Rattle.ppunit.specs.declared.units.Item.{Item}
-use Rattle.ppunit.specs.States.{State, Progress, stopped, emitted, kept, with_meter, with_waiting, Search, file_context, in_file_context, Context, with_dependency, with_one_spent}
+use Rattle.ppunit.specs.States.{State, Progress, stopped, emitted, kept, with_meter, with_waiting, Search, file_context, in_file_context, Context, with_dependency, with_one_spent, Opening, leaving, running}
 use Rattle.ppunit.specs.DirectiveLines.{operands, line_fault, text_tokens}
 use Rattle.ppunit.specs.Including.{IncludeName, begins_with_header, name_of_expansion_or, name_of_header, name_of_expansion}
 use Rattle.ppunit.specs.Conditions.{Decides, DecidesByValue}
@@ -21,8 +21,8 @@ use Rattle.ppunit.specs.Probing.{begins_with, NamesOperand, Probes, ProbesBy, Pr
 use Rattle.ppunit.specs.Directives.{meter_at_text, waits_in, text_emitted, EmitsText, NamesHeaderBy, NamesHeader, ExecutesDirective}
 use Rattle.ppunit.specs.Counts.{count_decides, count_names_header_by, count_names_header, count_names_operand, count_probes, count_probes_by, count_probes_line}
 use Rattle.ppunit.specs.Counts.{count_value, count_control_by, count_group, count_branches, count_control, count_includes, count_opening}
-use Rattle.ppunit.proofs.OutputPrefixes.{Before, before_then, control_by_before, same_state, depends, group_before, branches_before, opened_before}
-use Rattle.ppunit.proofs.WaitingInvocations.{WaitsIn, run_waits, group_waits, branches_waits, control_waits, defines_waits}
+use Rattle.ppunit.proofs.OutputPrefixes.{Before, before_then, control_by_before, same_state, depends, group_before, branches_before, opened_before, left_before, named_before}
+use Rattle.ppunit.proofs.WaitingInvocations.{WaitsIn, run_waits, group_waits, branches_waits, control_waits, defines_waits, opened_waits, named_waits}
 use Rattle.ppunit.proofs.TextBudgets.{budget_at_text, covers_at_text, less_at_text, expands_at_text}
 use Rattle.ppunit.proofs.BudgetSums.{count_run}
 use Rattle.ppunit.specs.code.Effects.{affected, expanding_effect, HasEffect}
@@ -30,17 +30,22 @@ use Rattle.ppunit.proofs.DirectiveEffects.{effect_of, executes, count_effect, sa
 use Rattle.pptext.specs.Tokens.{fault}
 use Rattle.ppexpand.specs.declared.meter.Meter.{Meter}
 use Rattle.ppunit.specs.Group.{depth_limit, ExecutesGroup, ExecutesBranches, ExecutesControlLine, ExecutesInclude, OpensFile}
-use Rattle.ppunit.specs.Unit.{Defines, unread, processed, Translates, definitions_fault, translated, count_defines, count_translates}
+use Rattle.ppunit.specs.Unit.{Defines, unread, processed, Translates, definitions_fault, translated, count_defines, count_translates, OpensFirst, all_read, first_fault, first_read, before_first, main_name, fault_before_main, count_first}
 use Rattle.ppunit.proofs.SufficientBudgets.{budgeted, holding, run_enough, asks_enough, asks_rest, operand_enough, operand_rest, probing_enough, probing_rest, decides_enough, decides_rest, run_rest}
-use Rattle.ppunit.proofs.SufficientBudgets.{group_rest, branches_rest, control_rest, defines_rest, group_enough, branches_enough, control_enough, defines_enough}
+use Rattle.ppunit.proofs.SufficientBudgets.{group_rest, branches_rest, control_rest, defines_rest, opened_rest, before_main_rest, group_enough, branches_enough, control_enough, opened_enough}
+use Rattle.ppunit.proofs.SufficientBudgets.{defines_enough, before_main_enough, named_covers, named_budgeted}
+use Rattle.ppunit.proofs.BudgetSums.{before_main_waits}
 use native.Mathlib.Decide.{dec_lt}
 use Rattle.ppunit.specs.declared.units.Item.TheVariants as item
+use Rattle.ppunit.specs.declared.units.FirstFile.{FirstFile}
+use Rattle.ppunit.specs.declared.units.Unit.{Unit as UnitOfList}
+use Rattle.ppunit.specs.Directives.{at_end}
 use Rattle.ppexpand.specs.Laws.{IsPrefix, LeavesOpen, nothing_open, invocation_open}
 use Rattle.ppexpand.specs.OpenInvocations.{open_expansion}
 use Rattle.ppexpand.proofs.OpenLists.{leaves}
 use Rattle.ppmacro.specs.Names.{Macros}
 use Rattle.pptext.specs.Profiles.{is_gnu}
-use Rattle.ppunit.proofs.KeptItems.{kept-first}
+use Rattle.ppunit.proofs.KeptItems.{kept-first, resumed_stopped}
 
 -- ---- if its budget is too small, a line stops with fault 35, after a prefix of its full output
 
@@ -198,9 +203,9 @@ effect_short profile row d s line m b is before (HasEffect.expanding {tokens = t
     let y : StopsEarly s.macros s.env s.meter b tokens x = expansion_short s.macros s.env b is expands less in
     let u = budgeted s b in
     let t = with_meter s y.expansion.meter in
-    let outcome : stopped t y.fault ≡ affected t (expanding_effect d u line y.expansion.fault y.expansion.tokens) =
-    (sym (fault_affects t y.fault)) ∙ ap (affected t) (sym (fault_is_effect d u line y.fault y.expansion.tokens))
-    ∙ (λ i. affected t (expanding_effect d u line ((sym y.stopped) i) y.expansion.tokens)) in
+    let outcome : stopped t y.fault ≡ affected t (expanding_effect d u row line y.expansion.fault y.expansion.tokens) =
+    (sym (fault_affects t y.fault)) ∙ ap (affected t) (sym (fault_is_effect d u row line y.fault y.expansion.tokens))
+    ∙ (λ i. affected t (expanding_effect d u row line ((sym y.stopped) i) y.expansion.tokens)) in
     (t, y.fault, over_same s m.state y.expansion.meter y.fault y.number before, HasEffect.expanding y.expansion (tokens_of_any_meter profile d s line (with_budget (Some b) s.meter) ∙ does) y.is outcome)
 
 pub control_by_short : (profile : Profile) (row : ℕ) (d : Option Directive) (s : State) (line : LogicalLine) (m : Progress) (b : ℕ) → Covers s.meter.remaining b
@@ -216,7 +221,7 @@ control_by_short profile row d s line m b is g less =
 
 module _ (context : Context) where
   -- opening a file with an exhausted budget
-  over_here : {depth row : ℕ} {directory : Option ℕ} {at : Place} (s t : State) → depth ≤ depth_limit → Before s t → Stops t (λ u f. OpensFile context depth at (budgeted s 0) row directory (stopped u f))
+  over_here : {depth row : ℕ} {how : Opening} {at : Place} (s t : State) → depth ≤ depth_limit → Before s t → Stops t (λ u f. OpensFile context depth at (budgeted s 0) row how (stopped u f))
   over_here {at = at} s t fits h = (budgeted s 0, fault 35 at [], over_same s t (with_budget (Some 0) s.meter) (fault 35 at []) refl h, OpensFile.exhausted fits refl)
 
   mutual
@@ -386,27 +391,34 @@ module _ (context : Context) where
               (x.0, x.1, x.2, ExecutesInclude.included a found {m = stopped x.0 x.1} (asks_enough s line.tokens meter_after (Ok a) b is asks (b - c) sum) finds x.3))
         ]
 
-    pub opened_short : {depth row : ℕ} {directory : Option ℕ} {at : Place} {s : State} {m : Progress} (b : ℕ) → Covers s.meter.remaining b
+    pub opened_short : {depth row : ℕ} {how : Opening} {at : Place} {s : State} {m : Progress} (b : ℕ) → Covers s.meter.remaining b
         → WaitsIn s
-        → (d : OpensFile context depth at s row directory m)
+        → (d : OpensFile context depth at s row how m)
         → b < count_opening d
-        → Stops m.state (λ t f. OpensFile context depth at (budgeted s b) row directory (stopped t f))
+        → Stops m.state (λ t f. OpensFile context depth at (budgeted s b) row how (stopped t f))
     opened_short b is w (OpensFile.too_deep deep) less = absurd (omega arith)
     opened_short b is w (OpensFile.exhausted fits spent) less = absurd (omega arith)
-    opened_short {depth} {row} {directory} {at} zero is w (OpensFile.not_read_again {s = s} fits more once) less =
-        over_here {depth = depth} {row = row} {directory = directory} {at = at} s (with_dependency (with_one_spent s) row) fits (depends s row)
+    opened_short {depth} {row} {how} {at} zero is w (OpensFile.not_read_again {s = s} fits more once) less =
+        over_here {depth = depth} {row = row} {how = how} {at = at} s (with_dependency (with_one_spent s) row) fits (depends s row)
     opened_short (suc b) is w (OpensFile.not_read_again fits more once) less = absurd (omega arith)
-    opened_short {depth} {row} {directory} {at} zero is w (OpensFile.not_readable {s = s} fits more once file) less =
-        over_here {depth = depth} {row = row} {directory = directory} {at = at} s (with_dependency (with_one_spent s) row) fits (depends s row)
+    opened_short {depth} {row} {how} {at} zero is w (OpensFile.not_readable {s = s} fits more once file) less =
+        over_here {depth = depth} {row = row} {how = how} {at = at} s (with_dependency (with_one_spent s) row) fits (depends s row)
     opened_short (suc b) is w (OpensFile.not_readable fits more once file) less = absurd (omega arith)
-    opened_short {depth} {row} {directory} {at} zero is w (OpensFile.content_fault {s = s} fits more once file reads) less =
-        over_here {depth = depth} {row = row} {directory = directory} {at = at} s (with_dependency (with_one_spent s) row) fits (depends s row)
+    opened_short {depth} {row} {how} {at} zero is w (OpensFile.content_fault {s = s} fits more once file reads) less =
+        over_here {depth = depth} {row = row} {how = how} {at = at} s (with_dependency (with_one_spent s) row) fits (depends s row)
     opened_short (suc b) is w (OpensFile.content_fault fits more once file reads) less = absurd (omega arith)
-    opened_short {depth} {row} {directory} {at} zero is w (OpensFile.read {s = s} {m = m} fits more once file reads tree here) less =
-        over_here {depth = depth} {row = row} {directory = directory} {at = at} s (in_file_context (file_context s) m.state) fits (before_then s (with_dependency s row) m.state (depends s row) (group_before context here))
-    opened_short (suc b) is w (OpensFile.read {s = s} fits more once file reads tree here) less =
+    opened_short {depth} {row} {how} {at} zero is w (OpensFile.read {s = s} {m = m} fits more once file reads tree here) less =
+        over_here {depth = depth} {row = row} {how = how} {at = at} s (leaving s how (at_end m)).state fits
+        (opened_before context (OpensFile.read {depth = depth} {row = row} {how = how} {at = at} {s = s} {m = m} fits more once file reads tree here))
+    opened_short {depth} {row} {how} {at} (suc b) is w (OpensFile.read {s = s} {m = m} fits more once file reads tree here) less =
         let x = group_short b (covers_less is) w here (omega arith) in
-        (in_file_context (file_context s) x.0, x.1, record { number = x.2.number; before = x.2.before }, OpensFile.read fits refl once file reads tree x.3)
+        let last : State = in_file_context (file_context s) x.0 in (
+          last,
+          x.1,
+          record { number = x.2.number; before = before_then last m.state (leaving s how (at_end m)).state x.2.before (left_before s how (at_end m)) },
+          subst (λ (z : Progress). OpensFile context depth at (budgeted s (suc b)) row how z) (resumed_stopped how.resumption last x.1)
+              (OpensFile.read fits refl once file reads tree x.3),
+        )
 
   defines_short : {defines : List (List ℕ)} {s : State} {m : Progress} (b : ℕ) → Covers s.meter.remaining b
       → WaitsIn s
@@ -418,23 +430,95 @@ module _ (context : Context) where
       let x = group_short b is w here less in
       (x.0, x.1, x.2, processed reads tree x.3)
 
-  pub unit_short : {defines : List (List ℕ)} {row : ℕ} {s : State} {m : Progress} (b : ℕ) → Covers s.meter.remaining b
+  first_before : {main number : ℕ} {s : State} {files : List FirstFile} {m : Progress} → OpensFirst context main number s files m → Before s m.state
+  first_before (all_read {s = s}) = same_state s
+  first_before (first_fault opens) = opened_before context opens
+  first_before (first_read {s = s} {t = t} {m = m} opens rest) = before_then s t m.state (opened_before context opens) (first_before rest)
+
+  first_short : {main number : ℕ} {s : State} {files : List FirstFile} {m : Progress} (b : ℕ) → Covers s.meter.remaining b
       → WaitsIn s
-      → (d : Translates context defines row s m)
+      → (d : OpensFirst context main number s files m)
+      → b < count_first d
+      → Stops m.state (λ t f. OpensFirst context main number (budgeted s b) files (stopped t f))
+  first_short b is w all_read less = absurd (omega arith)
+  first_short b is w (first_fault opens) less =
+      let x = opened_short b is w opens less in
+      (x.0, x.1, x.2, first_fault x.3)
+  first_short {m = m} b is w (first_read {t = t} opens rest) less =
+      let c = count_opening opens in
+      elim (dec_lt b c) [
+        | yes few ↦
+            (let x = opened_short b is w opens few in
+            (x.0, x.1, over_then x.0 t m.state x.1 x.2 (first_before rest), first_fault x.3))
+        | no not_few ↦
+            (let sum : b ≡ c + (b - c) = omega arith in
+            let x = first_short (b - c) (opened_rest context b (b - c) is w opens sum) (opened_waits context w opens) rest (omega arith) in
+            (x.0, x.1, x.2, first_read (opened_enough context b is w opens (b - c) sum) x.3))
+      ]
+
+  before_main_short : (unit : UnitOfList) (s : State) {m : Progress} (b : ℕ) → Covers s.meter.remaining b
+      → WaitsIn s
+      → (d : OpensFirst context unit.file (suc (length unit.defines.texts)) (before_first unit.file (main_name context.names unit) unit.first s) unit.first m)
+      → b < count_first d
+      → Stops m.state (λ t f. OpensFirst context unit.file (suc (length unit.defines.texts))
+      (before_first unit.file (main_name context.names unit) unit.first (budgeted s b)) unit.first (stopped t f))
+  before_main_short unit s b is w d less =
+      let x = first_short b (named_covers context unit.file (main_name context.names unit) unit.first s b is)
+      (named_waits context unit.file (main_name context.names unit) unit.first s w) d less in (
+        x.0,
+        x.1,
+        x.2,
+        subst (λ (z : State). OpensFirst context unit.file (suc (length unit.defines.texts)) z unit.first (stopped x.0 x.1))
+            (named_budgeted context unit.file (main_name context.names unit) unit.first s b) x.3,
+      )
+
+  before_main_before : (unit : UnitOfList) (s : State) {m : Progress}
+      → OpensFirst context unit.file (suc (length unit.defines.texts)) (before_first unit.file (main_name context.names unit) unit.first s) unit.first m
+      → Before s m.state
+  before_main_before unit s {m = m} d =
+      before_then s (before_first unit.file (main_name context.names unit) unit.first s) m.state
+      (named_before unit.file (main_name context.names unit) unit.first s) (first_before d)
+
+  -- the definitions go through, and the files that are read first stop
+  stops_before_main : {unit : UnitOfList} {s t : State} {u : Progress} (b : ℕ) → Covers s.meter.remaining b
+      → WaitsIn s
+      → (here : Defines context unit.defines.texts s (running t))
+      → (first : OpensFirst context unit.file (suc (length unit.defines.texts)) (before_first unit.file (main_name context.names unit) unit.first t) unit.first u)
+      → b < count_defines here + count_first first
+      → Stops u.state (λ v f. Translates context unit (budgeted s b) (stopped v f))
+  stops_before_main {unit} {t = t} {u = u} b is w here first less =
+      let c = count_defines here in
+      elim (dec_lt b c) [
+        | yes few ↦
+            (let x = defines_short b is w here few in
+            (x.0, x.1, over_then x.0 t u.state x.1 x.2 (before_main_before unit t first), definitions_fault x.3))
+        | no not_few ↦
+            (let sum : b ≡ c + (b - c) = omega arith in
+            let covers = defines_rest context b (b - c) is w here sum in
+            let x = before_main_short unit t (b - c) covers (defines_waits context w here) first (omega arith) in
+            (x.0, x.1, x.2, fault_before_main (defines_enough context b is w here (b - c) sum) x.3))
+      ]
+
+  pub unit_short : {unit : UnitOfList} {s : State} {m : Progress} (b : ℕ) → Covers s.meter.remaining b
+      → WaitsIn s
+      → (d : Translates context unit s m)
       → b < count_translates d
-      → Stops m.state (λ t f. Translates context defines row (budgeted s b) (stopped t f))
+      → Stops m.state (λ t f. Translates context unit (budgeted s b) (stopped t f))
   unit_short b is w (definitions_fault here) less =
       let x = defines_short b is w here less in
       (x.0, x.1, x.2, definitions_fault x.3)
-  unit_short {m = m} b is w (translated {t = t} here opens) less =
+  unit_short b is w (fault_before_main {t = t} here first) less = stops_before_main b is w here first less
+  unit_short {unit} {m = m} b is w (translated {t = t} {u = u} here first opens) less =
       let c = count_defines here in
-      elim (dec_lt b c) [
-        | yes less ↦
-            (let x = defines_short b is w here less in
-            (x.0, x.1, over_then x.0 t m.state x.1 x.2 (opened_before context opens), definitions_fault x.3))
-        | no not_less ↦
-            (let sum : b ≡ c + (b - c) = omega arith in
-            let covers = defines_rest context b (b - c) is w here sum in
-            let x = opened_short (b - c) covers (defines_waits context w here) opens (omega arith) in
-            (x.0, x.1, x.2, translated (defines_enough context b is w here (b - c) sum) x.3))
+      let k = count_first first in
+      elim (dec_lt b (c + k)) [
+        | yes few ↦
+            (let x = stops_before_main b is w here first few in
+            (x.0, x.1, over_then x.0 u m.state x.1 x.2 (opened_before context opens), x.3))
+        | no not_few ↦
+            (let n = b - (c + k) in
+            let covers = defines_rest context b (k + n) is w here (omega arith) in
+            let waits = defines_waits context w here in
+            let x = opened_short n (before_main_rest context unit t (k + n) n covers waits first refl) (before_main_waits context unit t waits first) opens (omega arith) in
+            (x.0, x.1, x.2, translated (defines_enough context b is w here (k + n) (omega arith)) (before_main_enough context unit t (k + n) covers waits first n refl) x.3))
       ]

@@ -1,16 +1,19 @@
 -- Over the same files a group, the opening of a file and a unit reach one state each, with one meter after it.
-use Rattle.std.proofs.Common.{◌≡◌, ℕ, List, Option, Some, None, Result, Ok, Err, refl, sym, ap, ◌∙◌, subst}
+use Rattle.std.proofs.Common.{◌≡◌, ℕ, List, Option, Some, None, Result, Ok, Err, refl, sym, ap, ◌∙◌, subst, length, suc}
 use Rattle.pptext.specs.declared.tokens.Place.{Place}
 use Rattle.pptext.specs.declared.tokens.Fault.{Fault}
 use Rattle.pptext.specs.Lines.{LogicalLine}
 use Rattle.pptext.specs.Sources.{Reads}
 use Rattle.pptext.specs.Tree.{GroupParts, Branches, Tree}
 use Rattle.ppshelf.specs.Names.{AreNames}
-use Rattle.ppunit.specs.States.{State, Context, Progress, running, stopped, leaving}
+use Rattle.ppunit.specs.States.{State, Context, Progress, running, stopped, leaving, Opening}
 use Rattle.ppunit.specs.DirectiveLines.{text_tokens}
 use Rattle.ppunit.specs.Directives.{at_end}
 use Rattle.ppunit.specs.Group.{ExecutesGroup, ExecutesBranches, ExecutesControlLine, ExecutesInclude, OpensFile}
-use Rattle.ppunit.specs.Unit.{Defines, unread, processed, Translates, definitions_fault, translated, command_file, command_text, first_place}
+use Rattle.ppunit.specs.Unit.{Defines, unread, processed, Translates, definitions_fault, translated, command_file, command_text, first_place, OpensFirst, all_read, first_fault, first_read}
+use Rattle.ppunit.specs.Unit.{before_first, main_name, fault_before_main, main_opening}
+use Rattle.ppunit.specs.declared.units.FirstFile.{FirstFile}
+use Rattle.ppunit.specs.declared.units.Unit.{Unit as UnitOfList}
 use Rattle.ppunit.proofs.LineUniqueness.{OneExpansion, OneDecision, OneReading, OneTree, OneRow, run_once}
 use Rattle.ppunit.proofs.SectionUniqueness.{AfterRun, at_run, AfterControl, at_control, at_done, at_stop, at_section, at_endif, at_branch, after_taken, after_skipped, after_refused, after_else, after_elif, after_passed}
 use Rattle.ppunit.proofs.SectionUniqueness.{after_faulty}
@@ -60,16 +63,16 @@ module _ (expansions : OneExpansion) (decisions : OneDecision) (readings : OneRe
       includes_once (ExecutesInclude.missing a asks finds) z d = after_missing expansions decisions rows context once a asks finds d
       includes_once (ExecutesInclude.included a found asks finds opens) z d = opened_once opens z (after_included expansions decisions rows context once a found asks finds d)
 
-      pub opened_once : {depth row : ℕ} {directory : Option ℕ} {at : Place} {s : State} {y : Progress} → OpensFile context depth at s row directory y → (z : Progress) → OpensFile context depth at s row directory z → y ≡ z
+      pub opened_once : {depth row : ℕ} {how : Opening} {at : Place} {s : State} {y : Progress} → OpensFile context depth at s row how y → (z : Progress) → OpensFile context depth at s row how z → y ≡ z
       opened_once (OpensFile.too_deep deep) z d = at_deep readings trees context deep d
       opened_once (OpensFile.exhausted fits spent) z d = at_over readings trees context fits spent d
       opened_once (OpensFile.not_read_again fits some known) z d = at_known readings trees context fits some known d
       opened_once (OpensFile.not_readable fits some new is) z d = at_unreadable readings trees context fits some new is d
       opened_once (OpensFile.content_fault {bytes = bytes} {f = f} fits some new is reads) z d =
           after_fault readings trees context refl (at_reading readings trees context bytes (Err f) fits some new is reads d)
-      opened_once {depth} {row} {directory} {at} {s} (OpensFile.read {bytes = bytes} {lines = lines} {parts = parts} fits some new is reads tree here) z d =
-          let h : AfterLines readings trees context depth s row directory parts z = after_lines readings trees context refl tree (at_reading readings trees context bytes (Ok lines) fits some new is reads d) in
-          ap (λ x. leaving s (at_end x)) (group_once here h.0 h.2) ∙ sym h.1
+      opened_once {depth} {row} {how} {at} {s} (OpensFile.read {bytes = bytes} {lines = lines} {parts = parts} fits some new is reads tree here) z d =
+          let h : AfterLines readings trees context depth at s row how parts z = after_lines readings trees context refl tree (at_reading readings trees context bytes (Ok lines) fits some new is reads d) in
+          ap (λ x. leaving s how (at_end x)) (group_once here h.0 h.2) ∙ sym h.1
 
     command_reading : (defines : List (List ℕ)) (x y : Result (List LogicalLine) Fault)
         → Reads context.profile command_file (command_text defines) x
@@ -107,21 +110,67 @@ module _ (expansions : OneExpansion) (decisions : OneDecision) (readings : OneRe
     defines_once (unread {f = f} reads) z d = unread_once refl (at_commands (Err f) reads d)
     defines_once (processed {lines = lines} reads tree here) z d = processed_once refl tree here (at_commands (Ok lines) reads d)
 
-    undefined_once : {defines : List (List ℕ)} {row : ℕ} {s t : State} {f : Fault} {m : Progress} → Defines context defines s (stopped t f) → Translates context defines row s m → stopped t f ≡ m
+    first_once : {main number : ℕ} {s : State} {files : List FirstFile} {y : Progress} → OpensFirst context main number s files y
+        → (z : Progress)
+        → OpensFirst context main number s files z
+        → y ≡ z
+    first_once all_read z all_read = refl
+    first_once (first_fault {t = t} {f = f} opens) z (first_fault {t = t'} {f = f'} opens') = opened_once opens (stopped t' f') opens'
+    first_once (first_fault {f = f} opens) z (first_read {t = t'} opens' rest') =
+        let one = opened_once opens (running t') opens' in
+        let no_fault : Some f ≡ None = λ i. (one i).fault in absurd (cc)
+    first_once (first_read {t = t} opens rest) z (first_fault {t = t'} {f = f'} opens') =
+        let one = opened_once opens (stopped t' f') opens' in
+        let no_fault : None ≡ Some f' = λ i. (one i).fault in absurd (cc)
+    first_once {main} {number} (first_read {t = t} {files = files} opens rest) z (first_read {t = t'} opens' rest') =
+        let one = opened_once opens (running t') opens' in
+        let states : t' ≡ t = λ i. ((sym one) i).state in
+        first_once rest z (subst (λ (x : State). OpensFirst context main (suc number) x files z) states rest')
+
+    abbrev BeforeMain : UnitOfList → State → Progress → Type 0
+    BeforeMain unit t m = OpensFirst context unit.file (suc (length unit.defines.texts)) (before_first unit.file (main_name context.names unit) unit.first t) unit.first m
+
+    undefined_once : {unit : UnitOfList} {s t : State} {f : Fault} {m : Progress} → Defines context unit.defines.texts s (stopped t f) → Translates context unit s m → stopped t f ≡ m
     undefined_once here (definitions_fault {t = t'} {f = f'} here') = defines_once here (stopped t' f') here'
-    undefined_once {f = f} here (translated {t = t'} here' opens) =
+    undefined_once {f = f} here (fault_before_main {t = t'} here' first) =
+        let one = defines_once here (running t') here' in
+        let no_fault : Some f ≡ None = λ i. (one i).fault in absurd (cc)
+    undefined_once {f = f} here (translated {t = t'} here' first opens) =
         let one = defines_once here (running t') here' in
         let no_fault : Some f ≡ None = λ i. (one i).fault in absurd (cc)
 
-    translated_once : {defines : List (List ℕ)} {row : ℕ} {s t : State} {y m : Progress} → Defines context defines s (running t) → OpensFile context 0 (first_place row) t row None y → Translates context defines row s m → y ≡ m
-    translated_once here opens (definitions_fault {t = t'} {f = f'} here') =
-        let one = defines_once here (stopped t' f') here' in
-        let no_fault : None ≡ Some f' = λ i. (one i).fault in absurd (cc)
-    translated_once {row = row} {t = t} {m = m} here opens (translated {t = t'} here' opens') =
+    -- the files that are read first, after the same definitions
+    same_first : (unit : UnitOfList) {s t t' : State} {y z : Progress} → Defines context unit.defines.texts s (running t) → BeforeMain unit t y
+        → Defines context unit.defines.texts s (running t') → BeforeMain unit t' z → y ≡ z
+    same_first unit {t = t} {t' = t'} {z = z} here first here' first' =
         let one = defines_once here (running t') here' in
         let states : t' ≡ t = λ i. ((sym one) i).state in
-        opened_once opens m (subst (λ z. OpensFile context 0 (first_place row) z row None m) states opens')
+        first_once first z (subst (λ (x : State). BeforeMain unit x z) states first')
 
-    pub translates_once : {defines : List (List ℕ)} {row : ℕ} {s : State} {y : Progress} → Translates context defines row s y → (z : Progress) → Translates context defines row s z → y ≡ z
-    translates_once (definitions_fault here) z d = undefined_once here d
-    translates_once (translated here opens) z d = translated_once here opens d
+    stopped_first : {unit : UnitOfList} {s t u : State} {f : Fault} {m : Progress} → Defines context unit.defines.texts s (running t) → BeforeMain unit t (stopped u f)
+        → Translates context unit s m → stopped u f ≡ m
+    stopped_first here first (definitions_fault {t = t'} {f = f'} here') =
+        let one = defines_once here (stopped t' f') here' in
+        let no_fault : None ≡ Some f' = λ i. (one i).fault in absurd (cc)
+    stopped_first {unit} here first (fault_before_main here' first') = same_first unit here first here' first'
+    stopped_first {unit} {f = f} here first (translated here' first' opens) =
+        let one = same_first unit here first here' first' in
+        let no_fault : Some f ≡ None = λ i. (one i).fault in absurd (cc)
+
+    translated_once : {unit : UnitOfList} {s t u : State} {y m : Progress} → Defines context unit.defines.texts s (running t) → BeforeMain unit t (running u)
+        → OpensFile context 0 (first_place unit.file) u unit.file (main_opening (main_name context.names unit)) y → Translates context unit s m → y ≡ m
+    translated_once here first opens (definitions_fault {t = t'} {f = f'} here') =
+        let one = defines_once here (stopped t' f') here' in
+        let no_fault : None ≡ Some f' = λ i. (one i).fault in absurd (cc)
+    translated_once {unit} here first opens (fault_before_main {f = f'} here' first') =
+        let one = same_first unit here first here' first' in
+        let no_fault : None ≡ Some f' = λ i. (one i).fault in absurd (cc)
+    translated_once {unit} {u = u} {m = m} here first opens (translated {u = u'} here' first' opens') =
+        let one = same_first unit here first here' first' in
+        let states : u' ≡ u = λ i. ((sym one) i).state in
+        opened_once opens m (subst (λ z. OpensFile context 0 (first_place unit.file) z unit.file (main_opening (main_name context.names unit)) m) states opens')
+
+    pub translates_once : {unit : UnitOfList} {s : State} {y : Progress} → Translates context unit s y → (z : Progress) → Translates context unit s z → y ≡ z
+    translates_once {unit} (definitions_fault here) z d = undefined_once {unit = unit} here d
+    translates_once {unit} (fault_before_main here first) z d = stopped_first {unit = unit} here first d
+    translates_once {unit} (translated here first opens) z d = translated_once {unit = unit} here first opens d

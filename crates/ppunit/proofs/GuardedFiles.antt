@@ -15,7 +15,7 @@ use Rattle.ppexpand.specs.Budget.{is_exhausted}
 use Rattle.ppexpand.specs.Expansion.{stops_with, done, count_expansion}
 use Rattle.ppshelf.specs.Content.{Content, unreadable, readable, IsRead}
 use Rattle.ppshelf.specs.Files.{file_at}
-use Rattle.ppunit.specs.States.{State, Context, search_of, running, with_dependency, entering, with_one_spent, with_waiting}
+use Rattle.ppunit.specs.States.{State, Context, search_of, running, with_dependency, begun, entering, leaving, with_one_spent, with_waiting, Opening}
 use Rattle.ppunit.specs.Dependencies.{has_row}
 use Rattle.ppunit.specs.DirectiveLines.{text_tokens}
 use Rattle.ppunit.specs.States.{is_macro_name}
@@ -109,19 +109,13 @@ module _ (context : Context) (depth row : ℕ) (s : State) (empty : s.waiting �
   guarded_group (Section r ps (Branch e ps' bs) qs) x all are g known = absurd g
 
 pub guards_leave_out : GuardsLeaveOut
-guards_leave_out context depth row directory at s bytes lines x fits is reads (parts, tree, guarded) known some empty = cases (has_row row s.once) refl
-  where
-    spelled : AllByRecursion (IsSpelledLine context.profile) (part_lines parts)
-    spelled = subst (AllByRecursion (IsSpelledLine context.profile)) (sym tree.whole) (source_spelled context.profile row bytes lines reads)
-
-    Opens : Option Fault → Type 0
-    Opens f = (d : OpensFile context depth at s row directory (record { state = with_dependency (with_one_spent s) row; fault = f })) × (count_opening d ≡ 1)
-
-    cases : (b : Bool) → has_row row s.once ≡ b → Opens None
-    cases true once = (OpensFile.not_read_again fits some once, refl)
-    cases false new =
-        let inside = guarded_group context depth row (entering context (with_one_spent s) row directory) empty parts x spelled tree.each guarded known in
-        subst Opens (ap fault_at_end empty) (OpensFile.read fits some new is reads tree inside.0, ap suc inside.1)
+guards_leave_out context depth row how at s bytes lines x fits is reads (parts, tree, guarded) known some new empty =
+    let spelled : AllByRecursion (IsSpelledLine context.profile) (part_lines parts) =
+    subst (AllByRecursion (IsSpelledLine context.profile)) (sym tree.whole) (source_spelled context.profile row bytes lines reads) in
+    let inside = guarded_group context depth row (entering at (with_one_spent s) row how) empty parts x spelled tree.each guarded known in
+    let Opens : Option Fault → Type 0 =
+    λ f. (d : OpensFile context depth at s row how (leaving s how (record { state = entering at (with_one_spent s) row how; fault = f }))) × (count_opening d ≡ 1) in
+    subst Opens (ap fault_at_end empty) (OpensFile.read fits some new is reads tree inside.0, ap suc inside.1)
 
 -- ---- files that are skipped
 
@@ -137,20 +131,21 @@ pub one_guard : (lines : List LogicalLine) (x y : List ℕ) → GuardedBy lines 
 one_guard lines x y (parts, tree, guarded) (parts', tree', guarded') =
     parts_guard parts x y guarded (subst (λ (z : GroupParts). GuardedParts z y) (at_most_one lines parts' parts tree' tree) guarded')
 
-pub opens_left_out : (context : Context) (depth row : ℕ) (directory : Option ℕ) (at : Place) (s a : State) (content : Content) (lines : List LogicalLine)
+pub opens_left_out : (context : Context) (depth row : ℕ) (how : Opening) (at : Place) (s a : State) (content : Content) (lines : List LogicalLine)
     → depth ≤ depth_limit
     → is_exhausted s.meter ≡ false
+    → has_row row s.once ≡ false
     → file_at context.files row ≡ Some content
     → IsRead context.profile row content (Ok lines)
     → a ≡ with_dependency (with_one_spent s) row
     → s.waiting ≡ []
     → IsLeftOut a lines
-    → OpensFile context depth at s row directory (running a)
-opens_left_out context depth row directory at s a unreadable lines fits some known reads is empty left_out = absurd reads
-opens_left_out context depth row directory at s a (readable bytes) lines fits some known reads is empty (x, guarded, defined) =
-    subst (λ (z : State). OpensFile context depth at s row directory (running z)) (sym is)
-    (guards_leave_out context depth row directory at s bytes lines x fits known reads guarded
-    (subst (λ (z : State). is_macro_name z.macros x ≡ true) is defined) some empty).0
+    → OpensFile context depth at s row how (leaving a how (running (begun at a row how)))
+opens_left_out context depth row how at s a unreadable lines fits some new known reads is empty left_out = absurd reads
+opens_left_out context depth row how at s a (readable bytes) lines fits some new known reads is empty (x, guarded, defined) =
+    subst (λ (z : State). OpensFile context depth at s row how (leaving z how (running (begun at z row how)))) (sym is)
+    (guards_leave_out context depth row how at s bytes lines x fits known reads guarded
+    (subst (λ (z : State). is_macro_name z.macros x ≡ true) is defined) some new empty).0
 
 pub left_out_by : (s : State) (lines : List LogicalLine) (name : List ℕ) (b : Bool) → GuardedBy lines name → b ≡ is_macro_name s.macros name → IsTrue b ↔ IsLeftOut s lines
 left_out_by s lines name b guarded is = (λ e. (name, guarded, sym is ∙ e), λ l. is ∙ ap (λ (z : List ℕ). is_macro_name s.macros z) (one_guard lines name l.0 guarded l.1) ∙ l.2)

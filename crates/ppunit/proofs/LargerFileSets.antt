@@ -6,11 +6,14 @@ use Rattle.pptext.specs.Tree.{GroupParts, Branches}
 use Rattle.ppexpand.specs.Expansion.{count_expansion}
 use Rattle.ppshelf.specs.Content.{unreadable}
 use Rattle.ppshelf.specs.Files.{Files, Extends}
-use Rattle.ppunit.specs.States.{State, Context, Progress}
+use Rattle.ppunit.specs.States.{State, Context, Progress, Opening}
 use Rattle.ppunit.specs.Group.{ExecutesGroup, ExecutesBranches, ExecutesControlLine, ExecutesInclude, OpensFile}
 use Rattle.ppunit.specs.Counts.{count_decides, count_names_header, counted_before, count_group, count_branches, count_control, count_includes, count_opening}
-use Rattle.ppunit.specs.Unit.{Defines, unread, processed, Translates, definitions_fault, translated, context_of_unit, count_defines, count_translates}
+use Rattle.ppunit.specs.Unit.{Defines, unread, processed, Translates, definitions_fault, translated, context_of_unit, count_defines, count_translates, OpensFirst, all_read, first_fault, first_read}
+use Rattle.ppunit.specs.Unit.{fault_before_main, count_first}
 use Rattle.ppunit.specs.Laws.{Grows}
+use Rattle.ppunit.specs.declared.units.FirstFile.{FirstFile}
+use Rattle.ppunit.specs.declared.units.Unit.{Unit as UnitOfList}
 
 module _ (context : Context) (more : Files) (grows : Extends more context.files) where
   abbrev pub wider : Context
@@ -68,8 +71,8 @@ module _ (context : Context) (more : Files) (grows : Extends more context.files)
         let o = opened_grows opens in
         (ExecutesInclude.included a found asks finds o.0, ap (λ n. count_names_header s line.tokens meter_after (Ok a) asks + n) o.1)
 
-    pub opened_grows : {depth row : ℕ} {directory : Option ℕ} {at : Place} {s : State} {m : Progress} (d : OpensFile context depth at s row directory m)
-        → (e : OpensFile wider depth at s row directory m) × (count_opening e ≡ count_opening d)
+    pub opened_grows : {depth row : ℕ} {how : Opening} {at : Place} {s : State} {m : Progress} (d : OpensFile context depth at s row how m)
+        → (e : OpensFile wider depth at s row how m) × (count_opening e ≡ count_opening d)
     opened_grows (OpensFile.too_deep deep) = (OpensFile.too_deep deep, refl)
     opened_grows (OpensFile.exhausted fits spent) = (OpensFile.exhausted fits spent, refl)
     opened_grows (OpensFile.not_read_again fits some known) = (OpensFile.not_read_again fits some known, refl)
@@ -83,12 +86,26 @@ module _ (context : Context) (more : Files) (grows : Extends more context.files)
   defines_grow (unread reads) = (unread reads, refl)
   defines_grow (processed reads tree here) = let h = group_grows here in (processed reads tree h.0, h.1)
 
-  pub translates_grows : {defines : List (List ℕ)} {row : ℕ} {s : State} {m : Progress} (d : Translates context defines row s m) → (e : Translates wider defines row s m) × (count_translates e ≡ count_translates d)
-  translates_grows (definitions_fault here) = let h = defines_grow here in (definitions_fault h.0, h.1)
-  translates_grows (translated here opens) =
-      let h = defines_grow here in
+  first_grows : {main number : ℕ} {s : State} {files : List FirstFile} {m : Progress} (d : OpensFirst context main number s files m)
+      → (e : OpensFirst wider main number s files m) × (count_first e ≡ count_first d)
+  first_grows all_read = (all_read, refl)
+  first_grows (first_fault opens) = let o = opened_grows opens in (first_fault o.0, o.1)
+  first_grows (first_read opens rest) =
       let o = opened_grows opens in
-      (translated h.0 o.0, both h.1 o.1)
+      let h = first_grows rest in
+      (first_read o.0 h.0, both o.1 h.1)
+
+  pub translates_grows : {unit : UnitOfList} {s : State} {m : Progress} (d : Translates context unit s m) → (e : Translates wider unit s m) × (count_translates e ≡ count_translates d)
+  translates_grows (definitions_fault here) = let h = defines_grow here in (definitions_fault h.0, h.1)
+  translates_grows (fault_before_main here first) =
+      let h = defines_grow here in
+      let f = first_grows first in
+      (fault_before_main h.0 f.0, both h.1 f.1)
+  translates_grows (translated here first opens) =
+      let h = defines_grow here in
+      let f = first_grows first in
+      let o = opened_grows opens in
+      (translated h.0 f.0 o.0, both h.1 (both f.1 o.1))
 
 pub unit_grows : Grows
 unit_grows names files more setting unit out grows is =

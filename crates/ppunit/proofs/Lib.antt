@@ -39,15 +39,13 @@ pub mod ControlLines
 -- One step of a walk. A walk over the lines of a file, from the first line to the end. What each call of the preprocessor preserves, two calls
 -- in sequence preserve.
 pub mod FileWalk
--- Whether an option is `None`.
-pub mod OptionCases
--- A decision from the tokens and the directive of a line is a decision of the line.
+-- A decision from the tokens and the directive of a line is a decision of the line. Whether an option, as a line's directive, is `None`.
 pub mod LineDecisions
 -- A walk over the lines of a file and of all files that it includes, with a stack of suspended files.
 pub mod FileStack
 -- The remaining work on the open files. A line counts more than all lines of a file one level deeper.
 pub mod RemainingWork
--- A search finds a file exactly if one of the candidates is among the file names.
+-- A search finds a file exactly if one of the candidates is among the file names. The shown name of a file, and directories by number.
 pub mod FileSearch
 -- Replacing the uses of `__has_include` by numbers, token by token.
 pub mod HasIncludeNumbers
@@ -86,3 +84,5 @@ pub mod BudgetPrefixes
 pub mod UnlimitedUnits
 -- If the content of each file is known, a unit has a value.
 pub mod UnitExistence
+-- The include chain of a unit is the include stack of its derivation.
+pub mod IncludeChains

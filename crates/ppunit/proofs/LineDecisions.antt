@@ -1,6 +1,7 @@
--- A decision from the tokens and the directive of a line is a decision of the line.
+-- A decision from the tokens and the directive of a line is a decision of the line. Whether an option, as a line's directive, is `None`.
 use Rattle.std.proofs.Common.{◌≡◌, ◌≢◌, ℕ, Bool, true, false, ◌&&◌, List, refl, sym, ap, ◌∙◌, subst, Option, None, Some, IsSome, Result, Ok, Err}
 use Rattle.std.specs.List.{list_any}
+use Rattle.std.specs.Option.{is_some}
 use Rattle.std.proofs.lemmas.Bool.{false≢true}
 use Rattle.pptext.specs.declared.tokens.Place.{Place}
 use Rattle.pptext.specs.declared.tokens.Token.{Token}
@@ -25,6 +26,14 @@ use Rattle.pptext.specs.Tree.{hash_place}
 use Rattle.ppexpand.specs.declared.meter.Meter.{Meter}
 use Rattle.ppunit.proofs.HasIncludeNumbers.{none_applies, unprobed}
 use Rattle.ppunit.specs.code.Walk.{ContinuesIf, ContinuesBy, TakesBranch}
+
+pub none_of : {A : Type 0} (o : Option A) → ((x : A) → o ≡ Some x → ⊥) → o ≡ None
+none_of None never = refl
+none_of (Some n) never = absurd (never n refl)
+
+pub some_not : {A : Type 0} (o : Option A) → is_some o ≡ true → o ≡ None → ⊥
+some_not None is none = absurd (cc)
+some_not (Some x) is none = cc
 
 pub decides_at : (search : Search) (row : ℕ) (s : State) (r : LogicalLine) (d : Directive) (tokens : List Token) (meter_after : Meter) (taken : Result Bool Fault)
     → r.directive ≡ Some d

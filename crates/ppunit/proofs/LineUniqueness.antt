@@ -74,7 +74,7 @@ module _ (expansions : OneExpansion) (decisions : OneDecision) where
   effect_once profile row d s r a b (HasEffect.expanding {tokens = us} x is expands made) (HasEffect.expanding {tokens = vs} y is' expands' gives) =
       let same : vs ≡ us = cc in
       made
-      ∙ ap (λ (e : Expansion). affected (with_meter s e.meter) (expanding_effect d s r e.fault e.tokens))
+      ∙ ap (λ (e : Expansion). affected (with_meter s e.meter) (expanding_effect d s row r e.fault e.tokens))
       (expansions s.macros s.env s.meter us x y expands (subst (λ ts. IsExpansion s.macros s.env s.meter ts y) same expands'))
       ∙ sym gives
 

@@ -8,14 +8,19 @@ use Rattle.pptext.specs.Lines.{LogicalLine}
 use Rattle.pptext.specs.Tree.{GroupParts, Branches}
 use Rattle.ppexpand.specs.Laws.{IsPrefix}
 use Rattle.ppunit.specs.Dependencies.{has_row}
-use Rattle.ppunit.specs.States.{State, Context, Progress, with_dependency}
+use Rattle.ppunit.specs.States.{State, Context, Progress, mark, with_dependency, with_one_spent, in_file, named, marked, file_context, in_file_context, entering, leaving, Opening}
 use Rattle.ppunit.specs.DirectiveLines.{text_tokens}
 use Rattle.ppunit.specs.Directives.{EmitsText, ExecutesDirective}
 use Rattle.ppunit.specs.Group.{ExecutesGroup, ExecutesBranches, ExecutesControlLine, ExecutesInclude, OpensFile}
 use Rattle.ppunit.specs.code.Effects.{expanding_effect, HasEffect}
 use Rattle.ppunit.proofs.DirectiveEffects.{effect_of}
 use Rattle.ppunit.specs.declared.units.Item.TheVariants as item
-use Rattle.ppunit.proofs.KeptItems.{kept-before}
+use Rattle.ppunit.specs.declared.units.MarkSort.{MarkSort}
+use Rattle.ppunit.specs.declared.units.MarkSort.TheVariants as mark_sort
+use Rattle.ppunit.specs.declared.units.FirstFile.{FirstFile}
+use Rattle.ppunit.specs.Unit.{before_first}
+use Rattle.ppunit.specs.Directives.{at_end}
+use Rattle.ppunit.proofs.KeptItems.{kept-before, resumed_emits}
 
 pub same_beginning : {A : Type 0} (xs : List A) → IsPrefix xs xs
 same_beginning xs = ([], sym (append-nil xs))
@@ -40,10 +45,28 @@ depends s row = (same_beginning s.items, joined (has_row row s.deps))
     joined true = same_beginning s.deps
     joined false = (row ∷ [], refl)
 
+-- a mark is emitted
+pub marked_before : (s : State) (sort : MarkSort) (row last : ℕ) → Before s (marked s sort row last)
+marked_before s sort row last = (kept-before s.keeps s.items (item.Mark (mark s sort row last) ∷ []), same_beginning s.deps)
+
+pub entered_before : (at : Place) (s : State) (row : ℕ) (how : Opening) → Before s (entering at (with_one_spent s) row how)
+entered_before at s row how =
+    before_then s (with_dependency s row) (entering at (with_one_spent s) row how) (depends s row)
+    (kept-before s.keeps s.items (item.Mark (mark (in_file (with_dependency (with_one_spent s) row) row how) (mark_sort.Enter at) row 0) ∷ []), same_beginning (with_dependency s row).deps)
+
+pub left_before : (s : State) (how : Opening) (m : Progress) → Before m.state (leaving s how m).state
+left_before s how m =
+    let more = resumed_emits how.resumption (record m { state = in_file_context (file_context s) m.state }) in
+    subst (λ (x : Progress). Before m.state x.state) (sym more.1) (kept-before m.state.keeps m.state.items more.0, same_beginning m.state.deps)
+
+pub named_before : (main : ℕ) (name : List ℕ) (files : List FirstFile) (s : State) → Before s (before_first main name files s)
+named_before main name [] s = same_state s
+named_before main name (file ∷ files) s = (kept-before s.keeps s.items (item.Mark (mark (named s name) mark_sort.Line main 0) ∷ []), same_beginning s.deps)
+
 effect_before : {profile : Profile} {row : ℕ} {d : Option Directive} {s : State} {line : LogicalLine} {m : Progress} → HasEffect profile row d s line m → Before s m.state
 effect_before {s = s} (HasEffect.immediate {e = e} is gives) = subst (λ x. Before s x.state) (sym gives) (kept-before s.keeps s.items e.items, same_beginning s.deps)
-effect_before {d = d} {s = s} {line = line} (HasEffect.expanding x is expands gives) =
-    subst (λ x. Before s x.state) (sym gives) (kept-before s.keeps s.items (expanding_effect d s line x.fault x.tokens).items, same_beginning s.deps)
+effect_before {row = row} {d = d} {s = s} {line = line} (HasEffect.expanding x is expands gives) =
+    subst (λ x. Before s x.state) (sym gives) (kept-before s.keeps s.items (expanding_effect d s row line x.fault x.tokens).items, same_beginning s.deps)
 
 pub control_by_before : (profile : Profile) (row : ℕ) (d : Option Directive) (s : State) (line : LogicalLine) (m : Progress) → ExecutesDirective profile row d s line m → Before s m.state
 control_by_before profile row d s line m g = effect_before (effect_of profile row d s line m g)
@@ -85,10 +108,12 @@ module _ (context : Context) where
     includes_before (ExecutesInclude.missing {s = s} a asks finds) = same_state s
     includes_before (ExecutesInclude.included a found asks finds opens) = opened_before opens
 
-    pub opened_before : {depth row : ℕ} {directory : Option ℕ} {at : Place} {s : State} {m : Progress} → OpensFile context depth at s row directory m → Before s m.state
+    pub opened_before : {depth row : ℕ} {how : Opening} {at : Place} {s : State} {m : Progress} → OpensFile context depth at s row how m → Before s m.state
     opened_before (OpensFile.too_deep {s = s} deep) = same_state s
     opened_before (OpensFile.exhausted {s = s} fits spent) = same_state s
     opened_before {row = row} (OpensFile.not_read_again {s = s} fits more once) = depends s row
     opened_before {row = row} (OpensFile.not_readable {s = s} fits more once file) = depends s row
     opened_before {row = row} (OpensFile.content_fault {s = s} fits more once file reads) = depends s row
-    opened_before {row = row} (OpensFile.read {s = s} {m = m} fits more once file reads tree here) = before_then s (with_dependency s row) m.state (depends s row) (group_before here)
+    opened_before {row = row} {how = how} {at = at} (OpensFile.read {s = s} {m = m} fits more once file reads tree here) =
+        before_then s (entering at (with_one_spent s) row how) (leaving s how (at_end m)).state (entered_before at s row how)
+        (before_then (entering at (with_one_spent s) row how) m.state (leaving s how (at_end m)).state (group_before here) (left_before s how (at_end m)))

@@ -68,20 +68,21 @@ work_entering : (f : OpenFile) (next : ℕ) (e : Entered) (ws : List SuspendedFi
     → f.index < next
     → length e.file.lines < 2 ^ 64
     → length ws < 200
-    → work e.file (record { file = record f { index = next }; file_context = e.outer } ∷ ws) < work f ws
+    → work e.file (record { file = record f { index = next }; file_context = e.outer; resumption = e.resumption } ∷ ws) < work f ws
 unfolding work waiting_work
 work_entering f next e ws within further few deep =
     deeper (lines_left e.file) (lines_left (record f { index = next })) (lines_left f) (weight (200 - suc (length ws))) (weight (200 - length ws))
     (waiting_work ws) (weight_more (length ws) deep) (weight_pos (200 - suc (length ws))) (lines_few e.file few) (lines_fewer f next within further)
 
-pub work_next : (context : Files → Context) (files : Files) (row : ℕ) (lines : List LogicalLine) (index next : ℕ) (s t : State) (f : OpenFile)
+pub work_next : (base : ℕ) (context : Files → Context) (files : Files) (row : ℕ) (lines : List LogicalLine) (index next : ℕ) (s t : State) (f : OpenFile)
     (entered : Option Entered) (ws : List SuspendedFile)
     → f.index < length f.lines
     → f.index < next
-    → StepsTo context files (length ws) row lines index s t next entered
+    → StepsTo context files (length ws + base) row lines index s t next entered
     → work (next_file (record f { index = next }) entered) (next_suspended (record f { index = next }) entered ws) < work f ws
-work_next context files row lines index next s t f None ws within further step = work_on f next ws within further
-work_next context files row lines index next s t f (Some e) ws within further step = work_entering f next e ws within further step.1.few step.1.fits
+work_next base context files row lines index next s t f None ws within further step = work_on f next ws within further
+work_next base context files row lines index next s t f (Some e) ws within further step =
+    work_entering f next e ws within further step.1.few (omega (arith, step.1.fits))
 
 pub work_leaving : (f : OpenFile) (w : SuspendedFile) (ws : List SuspendedFile) → work w.file ws < work f (w ∷ ws)
 unfolding work waiting_work

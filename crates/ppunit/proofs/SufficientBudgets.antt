@@ -1,5 +1,5 @@
 -- Lines, groups and units have the same effect with any sufficient budget, and leave the rest of the budget.
-use Rattle.std.proofs.Common.{◌≡◌, ℕ, zero, suc, ◌+◌, List, [], ◌∷◌, take, drop, codes, Bool, true, false, Option, Some, None, Result, Ok, Err, refl, ap, ◌∙◌, subst, arith, sym}
+use Rattle.std.proofs.Common.{◌≡◌, ℕ, zero, suc, ◌+◌, List, [], ◌∷◌, take, drop, codes, Bool, true, false, Option, Some, None, Result, Ok, Err, refl, ap, ◌∙◌, subst, arith, sym, length}
 use Rattle.pptext.specs.declared.tokens.Place.{Place}
 use Rattle.pptext.specs.declared.tokens.Token.{Token}
 use Rattle.pptext.specs.declared.tokens.Fault.{Fault}
@@ -14,22 +14,27 @@ use Rattle.ppexpand.specs.Budget.{with_budget, is_exhausted, is_used_up}
 use Rattle.ppexpand.proofs.BudgetLemmas.{Covers, larger, covers_rest, expansion_enough, without, covers_less}
 use Rattle.ppexpr.specs.Conditions.{count_condition}
 use Rattle.ppexpr.proofs.ConditionBudgets.{condition_enough}
-use Rattle.ppunit.specs.States.{State, Progress, with_meter, Search, Context, running, stopped}
+use Rattle.ppunit.specs.States.{State, Progress, with_meter, Search, Context, running, stopped, Opening, file_context, in_file_context, resumed_by, resumed}
 use Rattle.ppunit.specs.DirectiveLines.{operands, text_tokens, line_fault}
 use Rattle.ppunit.specs.Including.{IncludeName, begins_with_header, name_of_header, name_of_expansion}
 use Rattle.ppunit.specs.Conditions.{Decides, DecidesByValue}
 use Rattle.ppunit.specs.Probing.{begins_with, NamesOperand, Probes, ProbesBy, ProbesLine}
 use Rattle.ppunit.specs.Directives.{meter_at_text, waits_in, text_emitted, EmitsText, NamesHeaderBy, NamesHeader, ExecutesDirective}
-use Rattle.ppunit.specs.Counts.{count_decides, count_names_header_by, count_names_header, count_control_by, count_group, count_branches, count_control, count_includes, count_opening, count_names_operand, count_probes, count_probes_by, count_probes_line, count_value}
-use Rattle.ppunit.proofs.BudgetSums.{asks_spends, decides_spends, count_run, run_spends, group_spends, branches_spend, control_spends, defines_spends, operand_spends, probing_spends}
-use Rattle.ppunit.proofs.WaitingInvocations.{WaitsIn, run_waits, group_waits, branches_waits, control_waits, defines_waits}
+use Rattle.ppunit.specs.Counts.{count_decides, count_names_header_by, count_names_header, count_control_by, count_group, count_branches, count_control, count_includes, count_opening}
+use Rattle.ppunit.specs.Counts.{count_names_operand, count_probes, count_probes_by, count_probes_line, count_value}
+use Rattle.ppunit.proofs.BudgetSums.{asks_spends, decides_spends, count_run, run_spends, group_spends, branches_spend, control_spends, defines_spends, opened_spends, before_main_spends, before_main_waits, operand_spends, probing_spends}
+use Rattle.ppunit.proofs.WaitingInvocations.{WaitsIn, run_waits, group_waits, branches_waits, control_waits, defines_waits, opened_waits, named_waits}
 use Rattle.ppunit.proofs.TextBudgets.{counts_before, budget_at_text, covers_at_text, sum_at_text, expands_at_text, same_open}
 use Rattle.ppunit.specs.code.Effects.{affected, HasEffect}
 use Rattle.ppunit.proofs.DirectiveEffects.{effect_of, executes, count_effect, same_count, effect_of_any_meter, tokens_of_any_meter, expanding_of_any_meter}
 use Rattle.pptext.specs.Tokens.{fault}
 use Rattle.ppexpand.specs.declared.meter.Meter.{Meter}
 use Rattle.ppunit.specs.Group.{ExecutesGroup, ExecutesBranches, ExecutesControlLine, ExecutesInclude, OpensFile}
-use Rattle.ppunit.specs.Unit.{Defines, unread, processed, Translates, definitions_fault, translated, count_defines, count_translates}
+use Rattle.ppunit.specs.Unit.{Defines, unread, processed, Translates, definitions_fault, translated, count_defines, count_translates, OpensFirst, all_read, first_fault, first_read, before_first, main_name, fault_before_main, count_first}
+use Rattle.ppunit.specs.declared.units.FirstFile.{FirstFile}
+use Rattle.ppunit.specs.declared.units.Unit.{Unit as UnitOfList}
+use Rattle.ppunit.specs.declared.states.Resumption.{Resumption}
+use Rattle.ppunit.specs.Directives.{at_end}
 
 -- ---- a line has the same effect with any sufficient budget, and leaves the rest of the budget
 
@@ -40,6 +45,15 @@ budgeted s n = with_meter s (with_budget (Some n) s.meter)
 -- the same outcome with a budget of n
 abbrev pub holding : ℕ → Progress → Progress
 holding n r = record r { state = budgeted r.state n }
+
+-- the including file goes on, whatever the budget is
+resumed_by_holding : (r : Resumption) (n : ℕ) (s : State) (f : Option Fault) → resumed_by r (budgeted s n) f ≡ holding n (resumed_by r s f)
+resumed_by_holding r n s None = refl
+resumed_by_holding r n s (Some f) = refl
+
+resumed_holding : (r : Option Resumption) (n : ℕ) (m : Progress) → resumed r (holding n m) ≡ holding n (resumed r m)
+resumed_holding None n m = refl
+resumed_holding (Some r) n m = resumed_by_holding r n m.state m.fault
 
 same_rest : (n b : ℕ) (meter meter_after : Meter) → n ≡ b → meter_after ≡ meter → with_budget (Some n) meter_after ≡ with_budget (Some b) meter
 same_rest n b meter meter_after e f = λ i. with_budget (Some (e i)) (f i)
@@ -164,7 +178,7 @@ effect_enough profile row d s line m b is (HasEffect.immediate {e = e} does give
     HasEffect.immediate (effect_of_any_meter profile row d s line (with_budget (Some b) s.meter) ∙ does) (ap (holding n) gives ∙ ap (λ x. affected (budgeted s x) e) same)
 effect_enough profile row d s line m b is (HasEffect.expanding x does expands gives) n sum =
     HasEffect.expanding (record x { meter = with_budget (Some n) x.meter }) (tokens_of_any_meter profile d s line (with_budget (Some b) s.meter) ∙ does) (expansion_enough s.macros s.env b is expands n sum)
-    (ap (holding n) gives ∙ ap (affected (with_meter s (with_budget (Some n) x.meter))) (expanding_of_any_meter d s line x.fault x.tokens (with_budget (Some b) s.meter)))
+    (ap (holding n) gives ∙ ap (affected (with_meter s (with_budget (Some n) x.meter))) (expanding_of_any_meter d s row line x.fault x.tokens (with_budget (Some b) s.meter)))
 
 pub control_by_enough : (profile : Profile) (row : ℕ) (d : Option Directive) (s : State) (line : LogicalLine) (m : Progress) (b : ℕ) → Covers s.meter.remaining b
     → (g : ExecutesDirective profile row d s line m) (n : ℕ)
@@ -233,6 +247,20 @@ module _ (context : Context) where
       → b ≡ count_defines d + m
       → Covers r.state.meter.remaining m
   defines_rest {r = r} b m is w d sum = covers_rest r.state.meter.remaining (count_defines d) m is (defines_spends context w d) sum
+
+  pub opened_rest : {depth row : ℕ} {how : Opening} {at : Place} {s : State} {r : Progress} (b m : ℕ) → Covers s.meter.remaining b
+      → WaitsIn s
+      → (d : OpensFile context depth at s row how r)
+      → b ≡ count_opening d + m
+      → Covers r.state.meter.remaining m
+  opened_rest {r = r} b m is w d sum = covers_rest r.state.meter.remaining (count_opening d) m is (opened_spends context w d) sum
+
+  pub before_main_rest : (unit : UnitOfList) (s : State) {r : Progress} (b m : ℕ) → Covers s.meter.remaining b
+      → WaitsIn s
+      → (d : OpensFirst context unit.file (suc (length unit.defines.texts)) (before_first unit.file (main_name context.names unit) unit.first s) unit.first r)
+      → b ≡ count_first d + m
+      → Covers r.state.meter.remaining m
+  before_main_rest unit s {r = r} b m is w d sum = covers_rest r.state.meter.remaining (count_first d) m is (before_main_spends context unit s w d) sum
 
   mutual
     pub group_enough : {depth row : ℕ} {r : Progress} {ps : GroupParts} {end : Progress} (b : ℕ) → Covers r.state.meter.remaining b
@@ -325,33 +353,35 @@ module _ (context : Context) where
         ExecutesInclude.included a found (asks_enough s line.tokens meter_after (Ok a) b is asks (j + n) (omega arith)) finds
         (opened_enough (j + n) (asks_rest s line.tokens meter_after (Ok a) b (j + n) is asks (omega arith)) w opens n refl)
 
-    pub opened_enough : {depth row : ℕ} {directory : Option ℕ} {at : Place} {s : State} {m : Progress} (b : ℕ) → Covers s.meter.remaining b
+    pub opened_enough : {depth row : ℕ} {how : Opening} {at : Place} {s : State} {m : Progress} (b : ℕ) → Covers s.meter.remaining b
         → WaitsIn s
-        → (d : OpensFile context depth at s row directory m) (n : ℕ)
+        → (d : OpensFile context depth at s row how m) (n : ℕ)
         → b ≡ count_opening d + n
-        → OpensFile context depth at (budgeted s b) row directory (holding n m)
-    opened_enough {depth} {row} {directory} {at} {s} {m} b is w (OpensFile.too_deep deep) n sum =
+        → OpensFile context depth at (budgeted s b) row how (holding n m)
+    opened_enough {depth} {row} {how} {at} {s} {m} b is w (OpensFile.too_deep deep) n sum =
         let same : b ≡ n = omega arith in
-        subst (λ x. OpensFile context depth at (budgeted s b) row directory (holding x m)) same (OpensFile.too_deep deep)
-    opened_enough {depth} {row} {directory} {at} {s} zero is w (OpensFile.exhausted fits spent) n sum =
+        subst (λ x. OpensFile context depth at (budgeted s b) row how (holding x m)) same (OpensFile.too_deep deep)
+    opened_enough {depth} {row} {how} {at} {s} zero is w (OpensFile.exhausted fits spent) n sum =
         let same : 0 ≡ n = omega arith in
-        subst (λ x. OpensFile context depth at (budgeted s 0) row directory (holding x (stopped s (fault 35 at [])))) same (OpensFile.exhausted fits refl)
+        subst (λ x. OpensFile context depth at (budgeted s 0) row how (holding x (stopped s (fault 35 at [])))) same (OpensFile.exhausted fits refl)
     opened_enough (suc b) is w (OpensFile.exhausted {s = s} fits spent) n sum = absurd (covered s.meter b is spent)
     opened_enough zero is w (OpensFile.not_read_again fits more once) n sum = absurd (omega arith)
-    opened_enough {depth} {row} {directory} {at} {s} {m} (suc b) is w (OpensFile.not_read_again fits more once) n sum =
+    opened_enough {depth} {row} {how} {at} {s} {m} (suc b) is w (OpensFile.not_read_again fits more once) n sum =
         let same : b ≡ n = omega arith in
-        subst (λ x. OpensFile context depth at (budgeted s (suc b)) row directory (holding x m)) same (OpensFile.not_read_again fits refl once)
+        subst (λ x. OpensFile context depth at (budgeted s (suc b)) row how (holding x m)) same (OpensFile.not_read_again fits refl once)
     opened_enough zero is w (OpensFile.not_readable fits more once file) n sum = absurd (omega arith)
-    opened_enough {depth} {row} {directory} {at} {s} {m} (suc b) is w (OpensFile.not_readable fits more once file) n sum =
+    opened_enough {depth} {row} {how} {at} {s} {m} (suc b) is w (OpensFile.not_readable fits more once file) n sum =
         let same : b ≡ n = omega arith in
-        subst (λ x. OpensFile context depth at (budgeted s (suc b)) row directory (holding x m)) same (OpensFile.not_readable fits refl once file)
+        subst (λ x. OpensFile context depth at (budgeted s (suc b)) row how (holding x m)) same (OpensFile.not_readable fits refl once file)
     opened_enough zero is w (OpensFile.content_fault fits more once file reads) n sum = absurd (omega arith)
-    opened_enough {depth} {row} {directory} {at} {s} {m} (suc b) is w (OpensFile.content_fault fits more once file reads) n sum =
+    opened_enough {depth} {row} {how} {at} {s} {m} (suc b) is w (OpensFile.content_fault fits more once file reads) n sum =
         let same : b ≡ n = omega arith in
-        subst (λ x. OpensFile context depth at (budgeted s (suc b)) row directory (holding x m)) same (OpensFile.content_fault fits refl once file reads)
+        subst (λ x. OpensFile context depth at (budgeted s (suc b)) row how (holding x m)) same (OpensFile.content_fault fits refl once file reads)
     opened_enough zero is w (OpensFile.read fits more once file reads tree here) n sum = absurd (omega arith)
-    opened_enough (suc b) is w (OpensFile.read fits more once file reads tree here) n sum =
-        OpensFile.read fits refl once file reads tree (group_enough b (covers_less is) w here n (omega arith))
+    opened_enough {depth} {row} {how} {at} (suc b) is w (OpensFile.read {s = s} {m = m} fits more once file reads tree here) n sum =
+        subst (λ (z : Progress). OpensFile context depth at (budgeted s (suc b)) row how z)
+        (resumed_holding how.resumption n (record { state = in_file_context (file_context s) (at_end m).state; fault = (at_end m).fault }))
+        (OpensFile.read fits refl once file reads tree (group_enough b (covers_less is) w here n (omega arith)))
 
   pub defines_enough : {defines : List (List ℕ)} {s : State} {m : Progress} (b : ℕ) → Covers s.meter.remaining b
       → WaitsIn s
@@ -363,22 +393,62 @@ module _ (context : Context) where
       subst (λ x. Defines context defines (budgeted s b) (holding x m)) same (unread reads)
   defines_enough b is w (processed reads tree here) n sum = processed reads tree (group_enough b is w here n sum)
 
-  -- With a sufficient budget, the outcome of a unit is unchanged, and the rest of the budget remains.
-  pub unit_suffices : {defines : List (List ℕ)} {row : ℕ} {s : State} {m : Progress} (b : ℕ) → Covers s.meter.remaining b
+  first_enough : {main number : ℕ} {s : State} {files : List FirstFile} {m : Progress} (b : ℕ) → Covers s.meter.remaining b
       → WaitsIn s
-      → (d : Translates context defines row s m) (n : ℕ)
+      → (d : OpensFirst context main number s files m) (n : ℕ)
+      → b ≡ count_first d + n
+      → OpensFirst context main number (budgeted s b) files (holding n m)
+  first_enough {main} {number} {s} b is w all_read n sum =
+      let same : b ≡ n = omega arith in
+      subst (λ x. OpensFirst context main number (budgeted s b) [] (holding x (running s))) same all_read
+  first_enough b is w (first_fault opens) n sum = first_fault (opened_enough b is w opens n sum)
+  first_enough b is w (first_read opens rest) n sum =
+      let j = count_first rest in
+      first_read (opened_enough b is w opens (j + n) (omega arith)) (first_enough (j + n) (opened_rest b (j + n) is w opens (omega arith)) (opened_waits context w opens) rest n refl)
+
+  pub named_budgeted : (main : ℕ) (name : List ℕ) (files : List FirstFile) (s : State) (b : ℕ)
+      → budgeted (before_first main name files s) b ≡ before_first main name files (budgeted s b)
+  named_budgeted main name [] s b = refl
+  named_budgeted main name (file ∷ files) s b = refl
+
+  pub named_covers : (main : ℕ) (name : List ℕ) (files : List FirstFile) (s : State) (b : ℕ) → Covers s.meter.remaining b → Covers (before_first main name files s).meter.remaining b
+  named_covers main name [] s b is = is
+  named_covers main name (file ∷ files) s b is = is
+
+  pub before_main_enough : (unit : UnitOfList) (s : State) {m : Progress} (b : ℕ) → Covers s.meter.remaining b
+      → WaitsIn s
+      → (d : OpensFirst context unit.file (suc (length unit.defines.texts)) (before_first unit.file (main_name context.names unit) unit.first s) unit.first m) (n : ℕ)
+      → b ≡ count_first d + n
+      → OpensFirst context unit.file (suc (length unit.defines.texts)) (before_first unit.file (main_name context.names unit) unit.first (budgeted s b)) unit.first (holding n m)
+  before_main_enough unit s {m = m} b is w d n sum =
+      subst (λ (z : State). OpensFirst context unit.file (suc (length unit.defines.texts)) z unit.first (holding n m))
+      (named_budgeted unit.file (main_name context.names unit) unit.first s b)
+      (first_enough b (named_covers unit.file (main_name context.names unit) unit.first s b is) (named_waits context unit.file (main_name context.names unit) unit.first s w) d n sum)
+
+  -- With a sufficient budget, the outcome of a unit is unchanged, and the rest of the budget remains.
+  pub unit_suffices : {unit : UnitOfList} {s : State} {m : Progress} (b : ℕ) → Covers s.meter.remaining b
+      → WaitsIn s
+      → (d : Translates context unit s m) (n : ℕ)
       → b ≡ count_translates d + n
-      → Translates context defines row (budgeted s b) (holding n m)
+      → Translates context unit (budgeted s b) (holding n m)
   unit_suffices b is w (definitions_fault here) n sum = definitions_fault (defines_enough b is w here n sum)
-  unit_suffices b is w (translated here opens) n sum =
+  unit_suffices {unit} b is w (fault_before_main {t = t} here first) n sum =
+      let j = count_first first in
+      fault_before_main (defines_enough b is w here (j + n) (omega arith))
+      (before_main_enough unit t (j + n) (defines_rest b (j + n) is w here (omega arith)) (defines_waits context w here) first n refl)
+  unit_suffices {unit} b is w (translated {t = t} here first opens) n sum =
       let j = count_opening opens in
-      translated (defines_enough b is w here (j + n) (omega arith))
-      (opened_enough (j + n) (defines_rest b (j + n) is w here (omega arith)) (defines_waits context w here) opens n refl)
+      let k = count_first first in
+      let covers = defines_rest b (k + (j + n)) is w here (omega arith) in
+      let waits = defines_waits context w here in
+      translated (defines_enough b is w here (k + (j + n)) (omega arith))
+      (before_main_enough unit t (k + (j + n)) covers waits first (j + n) refl)
+      (opened_enough (j + n) (before_main_rest unit t (k + (j + n)) (j + n) covers waits first refl) (before_main_waits context unit t waits first) opens n refl)
 
   -- A unit without a budget has the same outcome with a sufficient budget.
-  pub unit_enough : {defines : List (List ℕ)} {row : ℕ} {s : State} {m : Progress} → s.meter.remaining ≡ None
+  pub unit_enough : {unit : UnitOfList} {s : State} {m : Progress} → s.meter.remaining ≡ None
       → WaitsIn s
-      → (d : Translates context defines row s m) (b n : ℕ)
+      → (d : Translates context unit s m) (b n : ℕ)
       → b ≡ count_translates d + n
-      → Translates context defines row (budgeted s b) (holding n m)
+      → Translates context unit (budgeted s b) (holding n m)
   unit_enough is w d b n sum = unit_suffices b (subst (λ budget. Covers budget b) (sym is) without) w d n sum

@@ -1,14 +1,15 @@
 -- If the content of each file is known, a unit has a value.
-use Rattle.std.proofs.Common.{◌≡◌, ◌≢◌, ℕ, zero, suc, ◌+◌, ◌-◌, ◌<◌, ◌≤◌, ◌⊎◌, inl, inr, Bool, true, false, List, []}
+use Rattle.std.proofs.Common.{◌≡◌, ◌≢◌, ℕ, zero, suc, ◌+◌, ◌-◌, ◌<◌, ◌≤◌, ◌⊎◌, inl, inr, Bool, true, false, List, [], All, length}
 use Rattle.std.proofs.Common.{◌∷◌, ◌++◌, length, take, drop, codes, IsSome, Option, Some, None, Result, Ok, Err, refl, ap, ◌∙◌, arith, if◌then◌else◌}
 use Rattle.std.proofs.lemmas.Bool.{cases_lt}
 use Rattle.std.proofs.lemmas.List.{length-drop}
+use Rattle.std.proofs.lemmas.List.Elements.{All-head, All-tail}
 use Rattle.pptext.specs.declared.tokens.Place.{Place}
 use Rattle.pptext.specs.declared.tokens.Token.{Token}
 use Rattle.pptext.specs.declared.tokens.Fault.{Fault}
 use Rattle.pptext.specs.declared.sources.Profile.{Profile}
 use Rattle.pptext.specs.declared.sources.Directive.{Directive}
-use Rattle.pptext.specs.declared.sources.Directive.TheVariants.{Else, Line}
+use Rattle.pptext.specs.declared.sources.Directive.TheVariants.{Else}
 use Rattle.pptext.specs.declared.directives.Question.{Question}
 use Rattle.pptext.specs.declared.directives.Question.TheVariants.{Defined, Value}
 use Rattle.pptext.specs.declared.directives.Class.{Class}
@@ -34,7 +35,7 @@ use Rattle.ppshelf.specs.Search.{Candidate, IsFirstRow}
 use Rattle.ppshelf.proofs.SearchResults.{first_within}
 use Rattle.ppunit.proofs.FirstLineCases.{else_directive, not_else}
 use Rattle.ppunit.specs.Dependencies.{has_row}
-use Rattle.ppunit.specs.States.{State, Search, Context, search_of, Progress, running, stopped, output, with_meter, with_dependency, entering, leaving, with_one_spent}
+use Rattle.ppunit.specs.States.{State, Search, Context, search_of, Progress, running, stopped, output, with_meter, with_dependency, entering, leaving, with_one_spent, Opening}
 use Rattle.ppunit.specs.DirectiveLines.{operands, line_fault, one_identifier, text_tokens}
 use Rattle.ppunit.specs.Quotes.{unmatched_quote}
 use Rattle.ppunit.specs.Including.{IncludeName, begins_with_header, name_of_header, name_or, name_of_expansion_or, if_possible_name, name_of_expansion}
@@ -45,7 +46,11 @@ use Rattle.ppunit.specs.code.Effects.{Effect, affected, immediate_effect, expand
 use Rattle.ppunit.proofs.DirectiveEffects.{executes, control_has_effect}
 use Rattle.ppunit.specs.Group.{depth_limit, ExecutesGroup, ExecutesBranches, ExecutesControlLine, ExecutesInclude, OpensFile}
 use Rattle.ppunit.specs.Laws.{KnowsAll, HasSomeValue}
-use Rattle.ppunit.specs.Unit.{Defines, unread, processed, Translates, definitions_fault, translated, command_file, command_text, first_place, context_of_unit, initial_state}
+use Rattle.ppunit.specs.Unit.{Defines, unread, processed, Translates, definitions_fault, translated, command_file, command_text, first_place, context_of_unit, initial_state, OpensFirst, all_read}
+use Rattle.ppunit.specs.Unit.{first_fault, first_read, before_first, main_name, fault_before_main, HasRows, first_file_place, first_opening, main_opening}
+use Rattle.ppunit.specs.declared.units.FirstFile.{FirstFile}
+use Rattle.ppunit.specs.declared.units.Unit.{Unit as UnitOfList}
+use Rattle.ppunit.specs.ShownNames.{opening_of}
 
 abbrev pub SomeExpansion : Type 0
 SomeExpansion = (macros : Macros) (env : Env) (meter : Meter) (tokens : List Token) → (e : Expansion) × IsExpansion macros env meter tokens e
@@ -200,7 +205,7 @@ module _ (expansions : SomeExpansion) (decisions : SomeDecision) where
       gives (inl (e, does)) = (affected s e, executes profile row (Some d) s line (affected s e) (HasEffect.immediate does refl))
       gives (inr (tokens, is)) =
           let x = expansions s.macros s.env s.meter tokens in
-          let m = affected (with_meter s x.0.meter) (expanding_effect (Some d) s line x.0.fault x.0.tokens) in
+          let m = affected (with_meter s x.0.meter) (expanding_effect (Some d) s row line x.0.fault x.0.tokens) in
           (m, executes profile row (Some d) s line m (HasEffect.expanding x.0 is x.1 refl))
 
   data Sort (profile : Profile) (row : ℕ) (d : Option Directive) : Type 0 where
@@ -223,9 +228,9 @@ module _ (expansions : SomeExpansion) (decisions : SomeDecision) where
   module _ (readings : SomeReading) (trees : SomeTree) (rows : SomeRow) (context : Context) (known : KnowsAll context.names context.files) where
     abbrev SomeOpened : ℕ → Type 0
     SomeOpened depth =
-        (at : Place) (s : State) (row : ℕ) (directory : Option ℕ)
+        (at : Place) (s : State) (row : ℕ) (how : Opening)
         → row < length context.names
-        → (m : Progress) × OpensFile context depth at s row directory m
+        → (m : Progress) × OpensFile context depth at s row how m
 
     module _ (depth : ℕ) (deeper : SomeOpened (suc depth)) where
       finding : (row : ℕ) (from : Option ℕ) (s : State) (line : LogicalLine) (meter_after : Meter) (a : IncludeName)
@@ -237,7 +242,7 @@ module _ (expansions : SomeExpansion) (decisions : SomeDecision) where
           (stopped (with_meter s meter_after) (line_fault 31 line.tokens a.name), ExecutesInclude.missing a asking finds)
       finding row from s line meter_after a asking (Some found) finds =
           let within : found.0 < length context.names = first_within context.names (candidates_for (search_of context) row from a) (Some found) finds in
-          let o = deeper (hash_place line.tokens) (with_meter s meter_after) found.0 (Some found.1) within in
+          let o = deeper (hash_place line.tokens) (with_meter s meter_after) found.0 (opening_of context row s line a found) within in
           (o.0, ExecutesInclude.included a found asking finds o.1)
 
       including : (row : ℕ) (from : Option ℕ) (s : State) (line : LogicalLine) (meter_after : Meter) (include_name : Result IncludeName Fault)
@@ -361,64 +366,64 @@ module _ (expansions : SomeExpansion) (decisions : SomeDecision) where
       tree_of : (profile : Profile) (row : ℕ) (bytes : List ℕ) (lines : List LogicalLine) → IsSource profile row bytes lines → (parts : GroupParts) × Tree lines parts
       tree_of profile row bytes lines is = trees lines (ap (λ x. group_fault [] x) is.lines_are ∙ is.grouped)
 
-      reading_file : (at : Place) (s : State) (row : ℕ) (directory : Option ℕ) (bytes : List ℕ)
+      reading_file : (at : Place) (s : State) (row : ℕ) (how : Opening) (bytes : List ℕ)
           → depth ≤ depth_limit
           → is_exhausted s.meter ≡ false
           → has_row row s.once ≡ false
           → file_at context.files row ≡ Some (readable bytes)
           → (r : Result (List LogicalLine) Fault)
           → Reads context.profile row bytes r
-          → (m : Progress) × OpensFile context depth at s row directory m
-      reading_file at s row directory bytes fits some new is (Err f) reads = (stopped (with_dependency (with_one_spent s) row) f, OpensFile.content_fault fits some new is reads)
-      reading_file at s row directory bytes fits some new is (Ok lines) reads =
+          → (m : Progress) × OpensFile context depth at s row how m
+      reading_file at s row how bytes fits some new is (Err f) reads = (stopped (with_dependency (with_one_spent s) row) f, OpensFile.content_fault fits some new is reads)
+      reading_file at s row how bytes fits some new is (Ok lines) reads =
           let t = tree_of context.profile row bytes lines reads in
-          let g = some_group t.0 t.1.each row (entering context (with_one_spent s) row directory) in
-          (leaving s (at_end g.0), OpensFile.read fits some new is reads t.1 g.1)
+          let g = some_group t.0 t.1.each row (entering at (with_one_spent s) row how) in
+          (leaving s how (at_end g.0), OpensFile.read fits some new is reads t.1 g.1)
 
-      at_content : (at : Place) (s : State) (row : ℕ) (directory : Option ℕ)
+      at_content : (at : Place) (s : State) (row : ℕ) (how : Opening)
           → depth ≤ depth_limit
           → is_exhausted s.meter ≡ false
           → has_row row s.once ≡ false
           → (c : Option Content)
           → file_at context.files row ≡ c
           → IsSome c
-          → (m : Progress) × OpensFile context depth at s row directory m
-      at_content at s row directory fits some new None is there = absurd (cc)
-      at_content at s row directory fits some new (Some unreadable) is there =
+          → (m : Progress) × OpensFile context depth at s row how m
+      at_content at s row how fits some new None is there = absurd (cc)
+      at_content at s row how fits some new (Some unreadable) is there =
           (stopped (with_dependency (with_one_spent s) row) (fault 6 at (name_in context.names row)), OpensFile.not_readable fits some new is)
-      at_content at s row directory fits some new (Some (readable bytes)) is there =
+      at_content at s row how fits some new (Some (readable bytes)) is there =
           let r = readings context.profile row bytes in
-          reading_file at s row directory bytes fits some new is r.0 r.1
+          reading_file at s row how bytes fits some new is r.0 r.1
 
-      at_once : (at : Place) (s : State) (row : ℕ) (directory : Option ℕ) → row < length context.names
+      at_once : (at : Place) (s : State) (row : ℕ) (how : Opening) → row < length context.names
           → depth ≤ depth_limit
           → is_exhausted s.meter ≡ false
           → (b : Bool)
           → has_row row s.once ≡ b
-          → (m : Progress) × OpensFile context depth at s row directory m
-      at_once at s row directory within fits some true e = (running (with_dependency (with_one_spent s) row), OpensFile.not_read_again fits some e)
-      at_once at s row directory within fits some false e = at_content at s row directory fits some e (file_at context.files row) refl (known row within)
+          → (m : Progress) × OpensFile context depth at s row how m
+      at_once at s row how within fits some true e = (running (with_dependency (with_one_spent s) row), OpensFile.not_read_again fits some e)
+      at_once at s row how within fits some false e = at_content at s row how fits some e (file_at context.files row) refl (known row within)
 
-      at_budget : (at : Place) (s : State) (row : ℕ) (directory : Option ℕ)
+      at_budget : (at : Place) (s : State) (row : ℕ) (how : Opening)
           → row < length context.names
           → depth ≤ depth_limit
           → (b : Bool)
           → is_exhausted s.meter ≡ b
-          → (m : Progress) × OpensFile context depth at s row directory m
-      at_budget at s row directory within fits true e = (stopped s (fault 35 at []), OpensFile.exhausted fits e)
-      at_budget at s row directory within fits false e = at_once at s row directory within fits e (has_row row s.once) refl
+          → (m : Progress) × OpensFile context depth at s row how m
+      at_budget at s row how within fits true e = (stopped s (fault 35 at []), OpensFile.exhausted fits e)
+      at_budget at s row how within fits false e = at_once at s row how within fits e (has_row row s.once) refl
 
-      at_depth : (at : Place) (s : State) (row : ℕ) (directory : Option ℕ) → row < length context.names → (depth_limit < depth) ⊎ (depth ≤ depth_limit) → (m : Progress) × OpensFile context depth at s row directory m
-      at_depth at s row directory within (inl deep) = (stopped s (fault 32 at (name_in context.names row)), OpensFile.too_deep deep)
-      at_depth at s row directory within (inr fits) = at_budget at s row directory within fits (is_exhausted s.meter) refl
+      at_depth : (at : Place) (s : State) (row : ℕ) (how : Opening) → row < length context.names → (depth_limit < depth) ⊎ (depth ≤ depth_limit) → (m : Progress) × OpensFile context depth at s row how m
+      at_depth at s row how within (inl deep) = (stopped s (fault 32 at (name_in context.names row)), OpensFile.too_deep deep)
+      at_depth at s row how within (inr fits) = at_budget at s row how within fits (is_exhausted s.meter) refl
 
       some_opened : SomeOpened depth
-      some_opened at s row directory within = at_depth at s row directory within (cases_lt depth_limit depth)
+      some_opened at s row how within = at_depth at s row how within (cases_lt depth_limit depth)
 
     -- by induction on the number of levels that remain
     opening : (n depth : ℕ) → 201 ≤ n + depth → SomeOpened depth
-    opening zero depth h at s row directory within = (stopped s (fault 32 at (name_in context.names row)), OpensFile.too_deep (omega arith))
-    opening (suc n) depth h at s row directory within = some_opened depth (opening n (suc depth) (omega arith)) at s row directory within
+    opening zero depth h at s row how within = (stopped s (fault 32 at (name_in context.names row)), OpensFile.too_deep (omega arith))
+    opening (suc n) depth h at s row how within = some_opened depth (opening n (suc depth) (omega arith)) at s row how within
 
     -- ---- a unit
 
@@ -432,21 +437,52 @@ module _ (expansions : SomeExpansion) (decisions : SomeDecision) where
         let g = some_group 0 deeper_ones t.0 t.1.each command_file s in
         (at_end g.0, processed reads t.1 g.1)
 
-    after_defines : (defines : List (List ℕ)) (row : ℕ)
-        → row < length context.names
-        → (s t : State) (f : Option Fault)
-        → Defines context defines s (record { state = t; fault = f })
-        → (m : Progress) × Translates context defines row s m
-    after_defines defines row within s t (Some f) d = (stopped t f, definitions_fault d)
-    after_defines defines row within s t None d = let o = opening 201 0 (omega arith) (first_place row) t row None within in (o.0, translated d o.1)
+    -- the files after one are opened unless it has a fault
+    first_then : (main number : ℕ) (file : FirstFile) (files : List FirstFile) (s : State)
+        → ((t : State) → (m : Progress) × OpensFirst context main (suc number) t files m)
+        → (t : State) (f : Option Fault)
+        → OpensFile context 1 (first_file_place number) s file.file (first_opening context.names main file) (record { state = t; fault = f })
+        → (m : Progress) × OpensFirst context main number s (file ∷ files) m
+    first_then main number file files s rest t (Some f) opens = (stopped t f, first_fault opens)
+    first_then main number file files s rest t None opens = ((rest t).0, first_read opens (rest t).1)
 
-    some_translation : (defines : List (List ℕ)) (row : ℕ) → row < length context.names → (s : State) → (m : Progress) × Translates context defines row s m
-    some_translation defines row within s =
-        let r = readings context.profile command_file (command_text defines) in
-        let d = defining defines s r.0 r.1 in
-        after_defines defines row within s d.0.state d.0.fault d.1
+    some_first : (main number : ℕ) (files : List FirstFile) → All (λ (f : FirstFile). f.file < length context.names) files → (s : State)
+        → (m : Progress) × OpensFirst context main number s files m
+    some_first main number [] within s = (running s, all_read)
+    some_first main number (file ∷ files) within s =
+        let inside = All-head (λ (f : FirstFile). f.file < length context.names) file files within in
+        let o = deeper_ones (first_file_place number) s file.file (first_opening context.names main file) inside in
+        first_then main number file files s (λ t. some_first main (suc number) files (All-tail (λ (f : FirstFile). f.file < length context.names) file files within) t)
+        o.0.state o.0.fault o.1
+
+    before_main : (unit : UnitOfList)
+        → HasRows (length context.names) unit
+        → (s t u : State) (f : Option Fault)
+        → Defines context unit.defines.texts s (running t)
+        → OpensFirst context unit.file (suc (length unit.defines.texts)) (before_first unit.file (main_name context.names unit) unit.first t) unit.first (record { state = u; fault = f })
+        → (m : Progress) × Translates context unit s m
+    before_main unit within s t u (Some f) d first = (stopped u f, fault_before_main d first)
+    before_main unit within s t u None d first =
+        let o = opening 201 0 (omega arith) (first_place unit.file) u unit.file (main_opening (main_name context.names unit)) within.0 in
+        (o.0, translated d first o.1)
+
+    after_defines : (unit : UnitOfList)
+        → HasRows (length context.names) unit
+        → (s t : State) (f : Option Fault)
+        → Defines context unit.defines.texts s (record { state = t; fault = f })
+        → (m : Progress) × Translates context unit s m
+    after_defines unit within s t (Some f) d = (stopped t f, definitions_fault d)
+    after_defines unit within s t None d =
+        let first = some_first unit.file (suc (length unit.defines.texts)) unit.first within.1 (before_first unit.file (main_name context.names unit) unit.first t) in
+        before_main unit within s t first.0.state first.0.fault d first.1
+
+    some_translation : (unit : UnitOfList) → HasRows (length context.names) unit → (s : State) → (m : Progress) × Translates context unit s m
+    some_translation unit within s =
+        let r = readings context.profile command_file (command_text unit.defines.texts) in
+        let d = defining unit.defines.texts s r.0 r.1 in
+        after_defines unit within s d.0.state d.0.fault d.1
 
   pub some_unit : SomeReading → SomeTree → SomeRow → HasSomeValue
   some_unit readings trees rows names files setting unit known within =
-      let t = some_translation readings trees rows (context_of_unit names files setting unit) known unit.defines.texts unit.file within (initial_state setting) in
+      let t = some_translation readings trees rows (context_of_unit names files setting unit) known unit within (initial_state setting) in
       (output t.0, record { progress = t.0; translates = t.1; is_output = refl })

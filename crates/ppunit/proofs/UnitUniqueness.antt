@@ -1,5 +1,5 @@
 -- Over the same files a unit has one value and one count.
-use Rattle.std.proofs.Common.{◌≡◌, ℕ, List, Option, Some, None, refl, sym, ap, ◌∙◌, ◌+◌, arith}
+use Rattle.std.proofs.Common.{◌≡◌, ℕ, Option, Some, None, refl, sym, ap, ◌∙◌, ◌+◌, arith}
 use Rattle.ppshelf.specs.Names.{AreNames}
 use Rattle.ppunit.specs.States.{State, Context, Progress, output}
 use Rattle.ppunit.specs.Unit.{Translates, context_of_unit, count_translates}
@@ -7,6 +7,7 @@ use Rattle.ppunit.proofs.LineUniqueness.{OneExpansion, OneDecision, OneReading, 
 use Rattle.ppunit.proofs.GroupUniqueness.{translates_once}
 use Rattle.ppexpand.specs.Laws.{plus}
 use Rattle.ppunit.specs.Laws.{HasOneValue}
+use Rattle.ppunit.specs.declared.units.Unit.{Unit as UnitOfList}
 use Rattle.ppunit.proofs.WaitingInvocations.{WaitsIn, nothing_waits}
 use Rattle.ppunit.proofs.BudgetSums.{unit_spends}
 use Rattle.ppunit.proofs.SufficientBudgets.{holding, unit_enough}
@@ -18,14 +19,14 @@ spent_once b m n (Some k) p q = let x : b ≡ m + k = cc in let y : b ≡ n + k 
 
 module _ (expansions : OneExpansion) (decisions : OneDecision) (readings : OneReading) (trees : OneTree) (rows : OneRow) where
   module _ (context : Context) (names : AreNames context.names) where
-    progress_once : {defines : List (List ℕ)} {row : ℕ} {s : State} {y z : Progress} → Translates context defines row s y → Translates context defines row s z → y ≡ z
+    progress_once : {unit : UnitOfList} {s : State} {y z : Progress} → Translates context unit s y → Translates context unit s z → y ≡ z
     progress_once {z = z} d e = translates_once expansions decisions readings trees rows context names d z e
 
     -- Without a budget, both derivations are compared with a budget that suffices for both.
-    counted_once : {defines : List (List ℕ)} {row : ℕ} {s : State} {y z : Progress} (budget : Option ℕ)
+    counted_once : {unit : UnitOfList} {s : State} {y z : Progress} (budget : Option ℕ)
         → s.meter.remaining ≡ budget
         → WaitsIn s
-        → (d : Translates context defines row s y) (e : Translates context defines row s z)
+        → (d : Translates context unit s y) (e : Translates context unit s z)
         → count_translates d ≡ count_translates e
     counted_once {y = y} (Some b) is w d e =
         let remainders = ap (λ (r : Progress). r.state.meter.remaining) (progress_once d e) in

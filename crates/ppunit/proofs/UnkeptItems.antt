@@ -1,5 +1,5 @@
 -- Whether items are kept changes nothing else.
-use Rattle.std.proofs.Common.{take, drop, codes, ◌≡◌, ◌∙◌, ℕ, List, Bool, true, false, Option, Some, None, Result, Ok, Err, refl, ap, map}
+use Rattle.std.proofs.Common.{take, drop, codes, length, ◌≡◌, ◌∙◌, ℕ, suc, List, [], ◌∷◌, Bool, true, false, Option, Some, None, Result, Ok, Err, refl, sym, subst, ap, map}
 use Rattle.pptext.specs.declared.tokens.Token.{Token}
 use Rattle.pptext.specs.declared.tokens.Fault.{Fault}
 use Rattle.pptext.specs.declared.tokens.Place.{Place}
@@ -11,7 +11,11 @@ use Rattle.pptext.specs.Tree.{GroupParts, Branches}
 use Rattle.ppexpand.specs.declared.meter.Meter.{Meter}
 use Rattle.ppunit.specs.declared.units.Item.{Item}
 use Rattle.ppunit.specs.declared.units.Item.TheVariants as item
-use Rattle.ppunit.specs.States.{State, Search, Context, Progress, kept, with_meter}
+use Rattle.ppunit.specs.declared.units.MarkSort.TheVariants as mark_sort
+use Rattle.ppunit.specs.declared.units.FirstFile.{FirstFile}
+use Rattle.ppunit.specs.declared.states.Resumption.{Resumption}
+use Rattle.ppunit.specs.declared.units.Unit.{Unit as UnitOfList}
+use Rattle.ppunit.specs.States.{State, Search, Context, Progress, kept, mark, with_meter, Opening, in_file, with_dependency, with_one_spent, file_context, in_file_context, named, resumed_by, resumed}
 use Rattle.ppunit.specs.DirectiveLines.{text_tokens}
 use Rattle.ppunit.specs.Conditions.{Decides, DecidesByValue}
 use Rattle.ppunit.specs.Including.{IncludeName, name_of_header, name_of_expansion}
@@ -20,7 +24,8 @@ use Rattle.ppunit.specs.Probing.{begins_with, Probes, ProbesBy}
 use Rattle.ppunit.specs.DirectiveLines.{operands}
 use Rattle.ppunit.specs.Including.{begins_with_header}
 use Rattle.ppunit.specs.Group.{ExecutesGroup, ExecutesBranches, ExecutesControlLine, ExecutesInclude, OpensFile}
-use Rattle.ppunit.specs.Unit.{Defines, unread, processed, Translates, definitions_fault, translated}
+use Rattle.ppunit.specs.Directives.{at_end}
+use Rattle.ppunit.specs.Unit.{Defines, unread, processed, OpensFirst, all_read, first_fault, first_read, before_first, main_name, Translates, definitions_fault, fault_before_main, translated}
 use Rattle.pptext.specs.declared.sources.Directive.TheVariants.{Null, Define, Undef, Line, Pragma, Unknown}
 use Rattle.ppunit.specs.LineControl.{Presumed, presumed}
 use Rattle.ppunit.specs.code.Effects.{Effect, affected, immediate_pragma, immediate_effect, line_effect, expanded_tokens, expanding_effect, HasEffect}
@@ -80,7 +85,7 @@ module _ (keeps : Bool) where
   decides_any items (Decides.tests_name q k d) = Decides.tests_name q k d
   decides_any items (Decides.evaluates q k d) = Decides.evaluates q k (value_any items d)
 
-  pragma_of_any_items : (os : Option (List Token)) (profile : Profile) (row : ℕ) (s : State) (line : List Token) (items : List Item)
+  pragma_of_any_items : (os : Option (List Token)) (profile : Profile) (row : ℕ) (s : State) (line : LogicalLine) (items : List Item)
       → immediate_pragma os profile row (holding_items keeps items s) line ≡ immediate_pragma os profile row s line
   pragma_of_any_items None profile row s line items = refl
   pragma_of_any_items (Some tokens) profile row s line items = refl
@@ -90,25 +95,25 @@ module _ (keeps : Bool) where
   effect_of_any_items profile row (Some Null) s line items = refl
   effect_of_any_items profile row (Some Define) s line items = refl
   effect_of_any_items profile row (Some Undef) s line items = refl
-  effect_of_any_items profile row (Some Pragma) s line items = pragma_of_any_items (expanded_operands profile s.macros (operands line.tokens)) profile row s line.tokens items
+  effect_of_any_items profile row (Some Pragma) s line items = pragma_of_any_items (expanded_operands profile s.macros (operands line.tokens)) profile row s line items
   effect_of_any_items profile row (Some Unknown) s line items = refl
   effect_of_any_items profile row d s line items = refl
 
-  line_of_any_items : (s : State) (line : LogicalLine) (f : Option Fault) (p : Option Presumed) (items : List Item) → line_effect s line f p ≡ line_effect (holding_items keeps items s) line f p
-  line_of_any_items s line (Some f) p items = refl
-  line_of_any_items s line None None items = refl
-  line_of_any_items s line None (Some p) items = refl
+  line_of_any_items : (s : State) (row : ℕ) (line : LogicalLine) (f : Option Fault) (p : Option Presumed) (items : List Item) → line_effect s row line f p ≡ line_effect (holding_items keeps items s) row line f p
+  line_of_any_items s row line (Some f) p items = refl
+  line_of_any_items s row line None None items = refl
+  line_of_any_items s row line None (Some p) items = refl
 
   tokens_of_any_items : (profile : Profile) (d : Option Directive) (s : State) (line : LogicalLine) (items : List Item) → expanded_tokens profile d (holding_items keeps items s) line ≡ expanded_tokens profile d s line
   tokens_of_any_items profile (Some Line) s line items = refl
   tokens_of_any_items profile (Some Pragma) s line items = refl
   tokens_of_any_items profile d s line items = refl
 
-  expanding_of_any_items : (d : Option Directive) (s : State) (line : LogicalLine) (f : Option Fault) (tokens : List Token) (items : List Item)
-      → expanding_effect d s line f tokens ≡ expanding_effect d (holding_items keeps items s) line f tokens
-  expanding_of_any_items (Some Pragma) s line (Some f) tokens items = refl
-  expanding_of_any_items (Some Pragma) s line None tokens items = refl
-  expanding_of_any_items d s line f tokens items = line_of_any_items s line f (presumed tokens) items
+  expanding_of_any_items : (d : Option Directive) (s : State) (row : ℕ) (line : LogicalLine) (f : Option Fault) (tokens : List Token) (items : List Item)
+      → expanding_effect d s row line f tokens ≡ expanding_effect d (holding_items keeps items s) row line f tokens
+  expanding_of_any_items (Some Pragma) s row line (Some f) tokens items = refl
+  expanding_of_any_items (Some Pragma) s row line None tokens items = refl
+  expanding_of_any_items d s row line f tokens items = line_of_any_items s row line f (presumed tokens) items
 
   effect_any : (profile : Profile) (row : ℕ) (d : Option Directive) (s : State) (line : LogicalLine) (m : Progress) (items : List Item)
       → HasEffect profile row d s line m
@@ -117,11 +122,11 @@ module _ (keeps : Bool) where
       let more : List Item = kept keeps items e.items in
       (more, HasEffect.immediate (effect_of_any_items profile row d s line items ∙ does) (ap (with_items keeps more) gives))
   effect_any profile row d s line m items (HasEffect.expanding x does expands gives) =
-      let e : Effect = expanding_effect d s line x.fault x.tokens in
+      let e : Effect = expanding_effect d s row line x.fault x.tokens in
       let more : List Item = kept keeps items e.items in (
         more,
         HasEffect.expanding x (tokens_of_any_items profile d s line items ∙ does) expands
-            (ap (with_items keeps more) gives ∙ ap (affected (with_meter (holding_items keeps items s) x.meter)) (expanding_of_any_items d s line x.fault x.tokens items)),
+            (ap (with_items keeps more) gives ∙ ap (affected (with_meter (holding_items keeps items s) x.meter)) (expanding_of_any_items d s row line x.fault x.tokens items)),
       )
 
   directive_any : (profile : Profile) (row : ℕ) (d : Option Directive) (s : State) (line : LogicalLine) (m : Progress) (items : List Item)
@@ -130,6 +135,17 @@ module _ (keeps : Bool) where
   directive_any profile row d s line m items g =
       let h = effect_any profile row d s line m items (effect_of profile row d s line m g) in
       (h.0, executes profile row d (holding_items keeps items s) line (with_items keeps h.0 m) h.1)
+
+  -- the including file goes on, whatever the items are
+  resumed_any_by : (r : Resumption) (items : List Item) (s : State) (f : Option Fault)
+      → (more : List Item) × (with_items keeps more (resumed_by r s f) ≡ resumed_by r (holding_items keeps items s) f)
+  resumed_any_by r items s None = (kept keeps items (item.Mark (mark s mark_sort.Leave r.row r.last) ∷ []), refl)
+  resumed_any_by r items s (Some f) = (items, refl)
+
+  resumed_any : (r : Option Resumption) (items : List Item) (m : Progress)
+      → (more : List Item) × (with_items keeps more (resumed r m) ≡ resumed r (with_items keeps items m))
+  resumed_any None items m = (items, refl)
+  resumed_any (Some r) items m = resumed_any_by r items m.state m.fault
 
   module _ (context : Context) where
     mutual
@@ -196,17 +212,22 @@ module _ (keeps : Bool) where
           let here = opened_any items opens in
           (here.0, ExecutesInclude.included a found (asks_by_any (begins_with_header (operands line.tokens)) (name_of_header (operands line.tokens)) s line.tokens (operands line.tokens) meter_after (Ok a) items asks) finds here.1)
 
-      opened_any : {depth row : ℕ} {directory : Option ℕ} {at : Place} {s : State} {m : Progress} (items : List Item)
-          → OpensFile context depth at s row directory m
-          → (more : List Item) × OpensFile context depth at (holding_items keeps items s) row directory (with_items keeps more m)
+      opened_any : {depth row : ℕ} {how : Opening} {at : Place} {s : State} {m : Progress} (items : List Item)
+          → OpensFile context depth at s row how m
+          → (more : List Item) × OpensFile context depth at (holding_items keeps items s) row how (with_items keeps more m)
       opened_any items (OpensFile.too_deep deep) = (items, OpensFile.too_deep deep)
       opened_any items (OpensFile.exhausted fits spent) = (items, OpensFile.exhausted fits spent)
       opened_any items (OpensFile.not_read_again fits more once) = (items, OpensFile.not_read_again fits more once)
       opened_any items (OpensFile.not_readable fits more once file) = (items, OpensFile.not_readable fits more once file)
       opened_any items (OpensFile.content_fault fits more once file reads) = (items, OpensFile.content_fault fits more once file reads)
-      opened_any items (OpensFile.read fits more once file reads tree group) =
-          let here = group_any items group in
-          (here.0, OpensFile.read fits more once file reads tree here.1)
+      opened_any {depth} {row} {how} {at} items (OpensFile.read {s = s} {m = m} fits more once file reads tree group) =
+          let first : List Item = kept keeps items (item.Mark (mark (in_file (with_dependency (with_one_spent s) row) row how) (mark_sort.Enter at) row 0) ∷ []) in
+          let here = group_any first group in
+          let inner : Progress = record { state = in_file_context (file_context s) (at_end m).state; fault = (at_end m).fault } in
+          let last = resumed_any how.resumption here.0 inner in (
+            last.0,
+            subst (λ (z : Progress). OpensFile context depth at (holding_items keeps items s) row how z) (sym last.1) (OpensFile.read fits more once file reads tree here.1),
+          )
 
     defines_any : {defines : List (List ℕ)} {s : State} {m : Progress} (items : List Item)
         → Defines context defines s m
@@ -216,13 +237,47 @@ module _ (keeps : Bool) where
         let here = group_any items group in
         (here.0, processed reads tree here.1)
 
-    pub unit_any : {defines : List (List ℕ)} {row : ℕ} {s : State} {m : Progress} (items : List Item)
-        → Translates context defines row s m
-        → (more : List Item) × Translates context defines row (holding_items keeps items s) (with_items keeps more m)
+    first_any : {main number : ℕ} {s : State} {files : List FirstFile} {m : Progress} (items : List Item)
+        → OpensFirst context main number s files m
+        → (more : List Item) × OpensFirst context main number (holding_items keeps items s) files (with_items keeps more m)
+    first_any items all_read = (items, all_read)
+    first_any items (first_fault opens) =
+        let here = opened_any items opens in
+        (here.0, first_fault here.1)
+    first_any items (first_read opens rest) =
+        let here = opened_any items opens in
+        let more = first_any here.0 rest in
+        (more.0, first_read here.1 more.1)
+
+    named_any : (main : ℕ) (name : List ℕ) (files : List FirstFile) (items : List Item) (s : State)
+        → (more : List Item) × (holding_items keeps more (before_first main name files s) ≡ before_first main name files (holding_items keeps items s))
+    named_any main name [] items s = (items, refl)
+    named_any main name (file ∷ files) items s = (kept keeps items (item.Mark (mark (named s name) mark_sort.Line main 0) ∷ []), refl)
+
+    before_main_any : (unit : UnitOfList) (s : State) {m : Progress} (items : List Item)
+        → OpensFirst context unit.file (suc (length unit.defines.texts)) (before_first unit.file (main_name context.names unit) unit.first s) unit.first m
+        → (more : List Item)
+        × OpensFirst context unit.file (suc (length unit.defines.texts)) (before_first unit.file (main_name context.names unit) unit.first (holding_items keeps items s))
+        unit.first (with_items keeps more m)
+    before_main_any unit s {m = m} items first =
+        let here = named_any unit.file (main_name context.names unit) unit.first items s in
+        let more = first_any here.0 first in (
+          more.0,
+          subst (λ (z : State). OpensFirst context unit.file (suc (length unit.defines.texts)) z unit.first (with_items keeps more.0 m)) here.1 more.1,
+        )
+
+    pub unit_any : {unit : UnitOfList} {s : State} {m : Progress} (items : List Item)
+        → Translates context unit s m
+        → (more : List Item) × Translates context unit (holding_items keeps items s) (with_items keeps more m)
     unit_any items (definitions_fault defines) =
         let here = defines_any items defines in
         (here.0, definitions_fault here.1)
-    unit_any items (translated defines opens) =
+    unit_any {unit} items (fault_before_main {t = t} defines first) =
         let here = defines_any items defines in
-        let more = opened_any here.0 opens in
-        (more.0, translated here.1 more.1)
+        let more = before_main_any unit t here.0 first in
+        (more.0, fault_before_main here.1 more.1)
+    unit_any {unit} items (translated {t = t} defines first opens) =
+        let here = defines_any items defines in
+        let more = before_main_any unit t here.0 first in
+        let main = opened_any more.0 opens in
+        (main.0, translated here.1 more.1 main.1)

@@ -19,7 +19,7 @@ use Rattle.ppexpand.specs.OpenInvocations.{open_expansion}
 use Rattle.ppexpand.proofs.BudgetFaults.{expansion_never_refused}
 use Rattle.ppexpand.proofs.BudgetLemmas.{expansion_spends}
 use Rattle.ppexpr.proofs.ConditionBudgets.{IsOther as IsOtherOr, condition_never_refused}
-use Rattle.ppunit.specs.States.{State, Context, Progress, Search}
+use Rattle.ppunit.specs.States.{State, Context, Progress, Search, Opening}
 use Rattle.ppunit.specs.DirectiveLines.{operands, line_fault, one_identifier, text_tokens}
 use Rattle.ppunit.specs.Quotes.{unmatched_quote}
 use Rattle.ppunit.specs.Including.{IncludeName, begins_with_header, name_of_header, name_of_expansion, if_possible_name, name_or, name_of_expansion_or}
@@ -28,13 +28,17 @@ use Rattle.ppunit.specs.Conditions.{by_name, DecidesByValue, Decides}
 use Rattle.ppunit.specs.Directives as directives
 use Rattle.ppunit.specs.Directives.{EmitsText, NamesHeaderBy, NamesHeader, ExecutesDirective, waits_in, fault_unless, waiting_fault, is_refused, refusal, or_fault}
 use Rattle.ppunit.specs.Group.{ExecutesGroup, ExecutesBranches, ExecutesControlLine, ExecutesInclude, OpensFile}
-use Rattle.ppunit.specs.Unit.{Defines, context_of_unit, unread, processed, Translates, definitions_fault, translated}
+use Rattle.ppunit.specs.Unit.{Defines, context_of_unit, unread, processed, Translates, definitions_fault, translated, OpensFirst, all_read, first_fault, first_read, before_first, main_name, fault_before_main}
 use Rattle.ppunit.specs.Counts.{count_decides, count_names_header, count_names_operand, count_probes_line, count_control_by}
 use Rattle.ppunit.proofs.DirectiveEffects.{IsOther, effect_of, effect_other}
-use Rattle.ppunit.proofs.BudgetSums.{still_none, asks_spends, operand_spends, probing_spends, decides_spends, control_by_spends}
+use Rattle.ppunit.proofs.BudgetSums.{still_none, asks_spends, operand_spends, probing_spends, decides_spends, control_by_spends, named_spends}
 use Rattle.ppunit.proofs.TextBudgets.{none_at_text}
 use Rattle.ppexpand.specs.Budget.{is_exhausted, is_used_up, one_less}
 use Rattle.ppunit.specs.Capped.{OnlyBudgetsRefuse}
+use Rattle.ppunit.specs.declared.units.FirstFile.{FirstFile}
+use Rattle.ppunit.specs.declared.units.Unit.{Unit as UnitOfList}
+use Rattle.ppunit.specs.Directives.{at_end}
+use Rattle.ppunit.proofs.KeptItems.{leaves_by}
 
 -- ---- without a budget no line ends in fault 35
 
@@ -99,14 +103,15 @@ module _ (context : Context) where
     includes_none is (ExecutesInclude.included {s = s} {line = line} {meter_after = meter_after} a found asks finds opens) =
         opened_none (asks_none s line.tokens meter_after (Ok a) is asks) opens
 
-    opened_none : {depth row : ℕ} {directory : Option ℕ} {at : Place} {s : State} {m : Progress} → s.meter.remaining ≡ None
-        → OpensFile context depth at s row directory m → m.state.meter.remaining ≡ None
+    pub opened_none : {depth row : ℕ} {how : Opening} {at : Place} {s : State} {m : Progress} → s.meter.remaining ≡ None
+        → OpensFile context depth at s row how m → m.state.meter.remaining ≡ None
     opened_none is (OpensFile.too_deep deep) = is
     opened_none is (OpensFile.exhausted fits spent) = is
     opened_none is (OpensFile.not_read_again fits more once) = ap one_less is
     opened_none is (OpensFile.not_readable fits more once file) = ap one_less is
     opened_none is (OpensFile.content_fault fits more once file reads) = ap one_less is
-    opened_none is (OpensFile.read fits more once file reads tree here) = group_none (ap one_less is) here
+    opened_none {how = how} is (OpensFile.read {s = s} {m = m} fits more once file reads tree here) =
+        leaves_by (λ (z : Progress). z.state.meter.remaining ≡ None) s how (at_end m) (λ items. group_none (ap one_less is) here)
 
   pub defines_none : {defines : List (List ℕ)} {s : State} {m : Progress} → s.meter.remaining ≡ None → Defines context defines s m → m.state.meter.remaining ≡ None
   defines_none is (unread reads) = is
@@ -305,22 +310,36 @@ module _ (context : Context) where
     includes_other is (ExecutesInclude.included {s = s} {line = line} {meter_after = meter_after} a found asks finds opens) =
         opened_other (asks_none s line.tokens meter_after (Ok a) is asks) opens
 
-    opened_other : {depth row : ℕ} {directory : Option ℕ} {at : Place} {s : State} {m : Progress} → s.meter.remaining ≡ None → OpensFile context depth at s row directory m → IsOther m.fault
+    opened_other : {depth row : ℕ} {how : Opening} {at : Place} {s : State} {m : Progress} → s.meter.remaining ≡ None → OpensFile context depth at s row how m → IsOther m.fault
     opened_other is (OpensFile.too_deep deep) = λ e. absurd (omega arith)
     opened_other is (OpensFile.exhausted {s = s} fits spent) = absurd (never_spent s.meter is spent)
     opened_other is (OpensFile.not_read_again fits more once) = tt
     opened_other is (OpensFile.not_readable fits more once file) = λ e. absurd (omega arith)
     opened_other is (OpensFile.content_fault fits more once file reads) = reads_other reads
-    opened_other is (OpensFile.read {m = m} fits more once file reads tree here) =
-        end_of_file_other m.fault m.state.waiting (group_other (ap one_less is) tt here)
+    opened_other {how = how} is (OpensFile.read {s = s} {m = m} fits more once file reads tree here) =
+        leaves_by (λ (z : Progress). IsOther z.fault) s how (at_end m) (λ items. end_of_file_other m.fault m.state.waiting (group_other (ap one_less is) tt here))
 
   defines_other : {defines : List (List ℕ)} {s : State} {m : Progress} → s.meter.remaining ≡ None → Defines context defines s m → IsOther m.fault
   defines_other is (unread reads) = reads_other reads
   defines_other is (processed {m = m} reads tree here) = end_of_file_other m.fault m.state.waiting (group_other is tt here)
 
-  unit_other : {defines : List (List ℕ)} {row : ℕ} {s : State} {m : Progress} → s.meter.remaining ≡ None → Translates context defines row s m → IsOther m.fault
+  first_other : {main number : ℕ} {s : State} {files : List FirstFile} {m : Progress} → s.meter.remaining ≡ None → OpensFirst context main number s files m → IsOther m.fault
+  first_other is all_read = tt
+  first_other is (first_fault opens) = opened_other is opens
+  first_other is (first_read opens rest) = first_other (opened_none context is opens) rest
+
+  first_none : {main number : ℕ} {s : State} {files : List FirstFile} {m : Progress} → s.meter.remaining ≡ None → OpensFirst context main number s files m → m.state.meter.remaining ≡ None
+  first_none is all_read = is
+  first_none is (first_fault opens) = opened_none context is opens
+  first_none is (first_read opens rest) = first_none (opened_none context is opens) rest
+
+  named_none : (unit : UnitOfList) (s : State) → s.meter.remaining ≡ None → (before_first unit.file (main_name context.names unit) unit.first s).meter.remaining ≡ None
+  named_none unit s is = ap (λ (z : Meter). z.remaining) (named_spends context unit.file (main_name context.names unit) unit.first s) ∙ is
+
+  unit_other : {unit : UnitOfList} {s : State} {m : Progress} → s.meter.remaining ≡ None → Translates context unit s m → IsOther m.fault
   unit_other is (definitions_fault here) = defines_other is here
-  unit_other is (translated here opens) = opened_other (defines_none context is here) opens
+  unit_other {unit} is (fault_before_main {t = t} here first) = first_other (named_none unit t (defines_none context is here)) first
+  unit_other {unit} is (translated {t = t} here first opens) = opened_other (first_none (named_none unit t (defines_none context is here)) first) opens
 
 never : (o : Option Fault) (f : Fault) → o ≡ Some f → IsOther o → f.number ≢ 35
 never o f is h = subst IsOther is h

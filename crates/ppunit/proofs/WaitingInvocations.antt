@@ -7,7 +7,7 @@ use Rattle.ppmacro.specs.Chains.{is_function_like}
 use Rattle.ppmacro.specs.declared.macros.Macro.{Macro}
 use Rattle.ppexpand.specs.Arguments.{is_open}
 use Rattle.ppexpand.specs.ExpansionStep.{macro_of}
-use Rattle.ppunit.specs.States.{State, Context, Progress}
+use Rattle.ppunit.specs.States.{State, Context, Progress, Opening}
 use Rattle.pptext.specs.declared.tokens.Place.{Place}
 use Rattle.pptext.specs.declared.tokens.Fault.{Fault}
 use Rattle.pptext.specs.declared.sources.Directive.{Directive}
@@ -21,9 +21,12 @@ use Rattle.ppexpand.proofs.OpenLists.{leaves}
 use Rattle.ppunit.specs.DirectiveLines.{operands, text_tokens}
 use Rattle.ppunit.specs.Directives.{EmitsText, ExecutesDirective, meter_at_text, is_refused, refusal}
 use Rattle.ppunit.specs.Group.{ExecutesGroup, ExecutesBranches, ExecutesControlLine, ExecutesInclude, OpensFile}
-use Rattle.ppunit.specs.Unit.{Defines, unread, processed}
+use Rattle.ppunit.specs.Unit.{Defines, unread, processed, OpensFirst, all_read, first_fault, first_read, before_first}
 use Rattle.ppunit.specs.code.Effects.{HasEffect}
+use Rattle.ppunit.specs.declared.units.FirstFile.{FirstFile}
+use Rattle.ppunit.specs.Directives.{at_end}
 use Rattle.ppunit.proofs.DirectiveEffects.{effect_of, effect_keeps, expanding_keeps}
+use Rattle.ppunit.proofs.KeptItems.{leaves_by}
 
 -- Nothing waits, or an invocation does: a token that names a function-like macro, `(`, and the tokens behind it. So the expansion of the tokens
 -- that wait and of more tokens behind them begins with this invocation.
@@ -79,9 +82,9 @@ effect_waits : {profile : Profile} {row : ℕ} {d : Option Directive} {s : State
 effect_waits {profile} {row} {d} {s} {line} w free (HasEffect.immediate {e = e} is gives) =
     subst (λ (r : Progress). WaitsIn r.state) (sym gives)
     (still_waits e.macros d (operands line.tokens) w free (λ t h. effect_keeps profile row d s line e t is h))
-effect_waits {d = d} {s = s} {line = line} w free (HasEffect.expanding x is expands gives) =
+effect_waits {row = row} {d = d} {s = s} {line = line} w free (HasEffect.expanding x is expands gives) =
     subst (λ (r : Progress). WaitsIn r.state) (sym gives)
-    (subst (λ (macros : Macros). Waits macros s.waiting) (expanding_keeps d s line x.fault x.tokens) w)
+    (subst (λ (macros : Macros). Waits macros s.waiting) (expanding_keeps d s row line x.fault x.tokens) w)
 
 pub control_by_waits : (profile : Profile) (row : ℕ) (d : Option Directive) (s : State) (line : LogicalLine) (m : Progress)
     → WaitsIn s
@@ -128,15 +131,25 @@ module _ (context : Context) where
     includes_waits w (ExecutesInclude.missing a asks finds) = w
     includes_waits w (ExecutesInclude.included a found asks finds opens) = opened_waits w opens
 
-    pub opened_waits : {depth row : ℕ} {directory : Option ℕ} {at : Place} {s : State} {m : Progress} → WaitsIn s → OpensFile context depth at s row directory m
+    pub opened_waits : {depth row : ℕ} {how : Opening} {at : Place} {s : State} {m : Progress} → WaitsIn s → OpensFile context depth at s row how m
         → WaitsIn m.state
     opened_waits w (OpensFile.too_deep deep) = w
     opened_waits w (OpensFile.exhausted fits spent) = w
     opened_waits w (OpensFile.not_read_again fits more once) = w
     opened_waits w (OpensFile.not_readable fits more once file) = w
     opened_waits w (OpensFile.content_fault fits more once file reads) = w
-    opened_waits w (OpensFile.read fits more once file reads tree here) = group_waits w here
+    opened_waits {how = how} w (OpensFile.read {s = s} {m = m} fits more once file reads tree here) =
+        leaves_by (λ (z : Progress). WaitsIn z.state) s how (at_end m) (λ items. group_waits w here)
 
   pub defines_waits : {defines : List (List ℕ)} {s : State} {m : Progress} → WaitsIn s → Defines context defines s m → WaitsIn m.state
   defines_waits w (unread reads) = w
   defines_waits w (processed reads tree here) = group_waits w here
+
+  pub first_waits : {main number : ℕ} {s : State} {files : List FirstFile} {m : Progress} → WaitsIn s → OpensFirst context main number s files m → WaitsIn m.state
+  first_waits w all_read = w
+  first_waits w (first_fault opens) = opened_waits w opens
+  first_waits w (first_read opens rest) = first_waits (opened_waits w opens) rest
+
+  pub named_waits : (main : ℕ) (name : List ℕ) (files : List FirstFile) (s : State) → WaitsIn s → WaitsIn (before_first main name files s)
+  named_waits main name [] s w = w
+  named_waits main name (file ∷ files) s w = w

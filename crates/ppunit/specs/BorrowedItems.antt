@@ -1,5 +1,5 @@
 -- Borrowed items: single ones, and slices of a unit's items.
-use Rattle.std.specs.Prelude.{List, [], ◌∷◌, map}
+use Rattle.std.specs.Prelude.{ℕ, suc, List, [], ◌∷◌, map}
 use Rattle.ppexpand.specs.Slices.{ref_token, slice_tokens}
 use Rattle.ppunit.specs.declared.units.Item.{Item}
 use Rattle.ppunit.specs.declared.units.Item.TheVariants as item
@@ -12,8 +12,17 @@ use Rattle.ppunit.specs.declared.items.ItemSlice.TheVariants as slice
 abbrev pub ref_item : ItemRef → Item
 ref_item (ref.Token t) = item.Token (ref_token t)
 ref_item (ref.Pragma at ts) = item.Pragma at ts.now
+ref_item (ref.Mark m) = item.Mark m.now
 
 -- the items of a slice
 abbrev pub slice_items : ItemSlice → List Item
 slice_items (slice.Tokens ts) = map item.Token (slice_tokens ts)
 slice_items (slice.Pragma at ts) = item.Pragma at ts.now ∷ []
+slice_items (slice.Mark m) = item.Mark m.now ∷ []
+
+-- the number of marks among items
+abbrev pub marks : List Item → ℕ
+marks [] = 0
+marks (item.Token t ∷ items) = marks items
+marks (item.Pragma at ts ∷ items) = marks items
+marks (item.Mark m ∷ items) = suc (marks items)

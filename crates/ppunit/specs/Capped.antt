@@ -7,7 +7,7 @@ use Rattle.ppshelf.specs.Files.{Files, Extends}
 use Rattle.ppunit.specs.declared.units.Unit.{Unit as UnitOfList}
 use Rattle.ppunit.specs.declared.units.Setting.{Setting}
 use Rattle.ppunit.specs.declared.units.UnitOut.{UnitOut}
-use Rattle.ppunit.specs.Unit.{IsUnit, count}
+use Rattle.ppunit.specs.Unit.{IsUnit, HasRows, count}
 use Rattle.ppunit.specs.Laws.{KnowsAll}
 
 -- the unit's fault has this number
@@ -53,7 +53,7 @@ pub record IsCappedOver (names : List (List ℕ)) (files : Files) (setting : Set
       → setting.budget ≡ Some b
       → Extends more files
       → KnowsAll names more
-      → unit.file < length names
+      → HasRows (length names) unit
       → HasWhole b names more setting unit out
 
 -- ---- theorems
@@ -108,7 +108,7 @@ pub record GivesNoLessOver (larger : Option ℕ) (names : List (List ℕ)) (file
   pub some : (wider : Files)
       → Extends wider files
       → KnowsAll names wider
-      → unit.file < length names
+      → HasRows (length names) unit
       → HasNoLess larger names wider setting unit out
 
 -- with a larger budget, or with none, the value of a unit is at least as long

@@ -13,7 +13,7 @@ use Rattle.pptext.specs.Tree.{GroupParts, Branches}
 use Rattle.ppexpand.specs.declared.meter.Meter.{Meter}
 use Rattle.ppexpand.specs.Expansion.{count_expansion}
 use Rattle.ppexpr.specs.Conditions.{count_condition}
-use Rattle.ppunit.specs.States.{Search, State, Context, Progress}
+use Rattle.ppunit.specs.States.{Search, State, Context, Progress, Opening}
 use Rattle.ppunit.specs.DirectiveLines.{operands}
 use Rattle.ppunit.specs.Including.{IncludeName, begins_with_header, name_of_header, name_of_expansion}
 use Rattle.ppunit.specs.Conditions.{Decides, DecidesByValue}
@@ -75,7 +75,7 @@ count_decides (Decides.unmatched quote freely) = 0
 count_decides (Decides.tests_name quote question freely) = 0
 count_decides (Decides.evaluates quote question value) = count_value value
 
-abbrev pub count_pragma : (operands : Option (List Token)) (profile : Profile) (row : ℕ) (s : State) (line : List Token) (m : Progress)
+abbrev pub count_pragma : (operands : Option (List Token)) (profile : Profile) (row : ℕ) (s : State) (line : LogicalLine) (m : Progress)
     → ExecutesPragma operands profile row s line m
     → ℕ
 count_pragma (Some tokens) profile row s line m h = count_expansion h.expands
@@ -85,7 +85,7 @@ abbrev pub count_control_by : (profile : Profile) (row : ℕ) (d : Option Direct
     → ExecutesDirective profile row d s line m
     → ℕ
 count_control_by profile row (Some Line) s line m h = count_expansion h.expands
-count_control_by profile row (Some Pragma) s line m h = count_pragma (expanded_operands profile s.macros (operands line.tokens)) profile row s line.tokens m h
+count_control_by profile row (Some Pragma) s line m h = count_pragma (expanded_operands profile s.macros (operands line.tokens)) profile row s line m h
 count_control_by profile row _ s line m h = 0
 
 -- an invocation that waits was counted where it began
@@ -137,8 +137,8 @@ abbrev mutual
   count_includes (ExecutesInclude.included {s = s} {line = line} {meter_after = meter_after} a found names finds opens) =
       count_names_header s line.tokens meter_after (Ok a) names + count_opening opens
 
-  pub count_opening : {context : Context} {depth row : ℕ} {directory : Option ℕ} {at : Place} {s : State} {m : Progress}
-      → OpensFile context depth at s row directory m
+  pub count_opening : {context : Context} {depth row : ℕ} {how : Opening} {at : Place} {s : State} {m : Progress}
+      → OpensFile context depth at s row how m
       → ℕ
   count_opening (OpensFile.too_deep deep) = 0
   count_opening (OpensFile.exhausted fits spent) = 0

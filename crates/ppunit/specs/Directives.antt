@@ -1,5 +1,6 @@
 -- The effect of a control line (6.10.2 to 6.10.7), without the file that it includes.
 use Rattle.std.specs.Prelude.{◌≡◌, ℕ, Bool, true, false, ◌&&◌, ◌||◌, if◌then◌else◌, Option, None, Some, Result, Ok, Err}
+use Rattle.std.specs.Option.{is_some}
 use Rattle.std.specs.Prelude.{List, [], ◌∷◌, ◌++◌, map, flat_map, take, codes}
 use Rattle.std.specs.Str.{bytes_eq}
 use Rattle.pptext.specs.declared.tokens.Token.{Token}
@@ -23,7 +24,8 @@ use Rattle.ppexpand.specs.OpenInvocations.{open_expansion}
 use Rattle.ppshelf.specs.Names.{name_in}
 use Rattle.ppshelf.specs.Search.{Candidate, candidates, candidates_after, IsFirstRow}
 use Rattle.ppunit.specs.declared.units.Item.TheVariants as item
-use Rattle.ppunit.specs.States.{is_macro_name, State, Context, Progress, running, stopped, emitted, with_once, with_macro_pushed, with_macro_popped, with_meter, with_waiting, Search, search_of}
+use Rattle.ppunit.specs.declared.units.MarkSort.TheVariants as mark_sort
+use Rattle.ppunit.specs.States.{is_macro_name, State, Context, Progress, running, stopped, emitted, marked, with_system_row, with_once, with_macro_pushed, with_macro_popped, with_meter, with_waiting, Search, search_of}
 use Rattle.ppunit.specs.DirectiveLines.{operands, line_fault, named_fault, spaced}
 use Rattle.ppunit.specs.LineControl.{Presumed, is_plain_string, presumed, renumbered}
 use Rattle.ppunit.specs.Including.{IncludeName, inner, begins_with_header, name_of_header, name_or, name_of_expansion_or, if_possible_name}
@@ -70,15 +72,15 @@ message (t ∷ ts) = t.text ++ flat_map spaced ts
 
 -- ---- `#line` (6.10.4)
 
-abbrev pub renumbered_by : State → LogicalLine → Option Fault → Option Presumed → Progress
-renumbered_by s line (Some f) p = stopped s f
-renumbered_by s line None None = stopped s (line_fault 33 line.tokens [])
-renumbered_by s line None (Some p) = running (renumbered s line p)
+abbrev pub renumbered_by : State → ℕ → LogicalLine → Option Fault → Option Presumed → Progress
+renumbered_by s row line (Some f) p = stopped s f
+renumbered_by s row line None None = stopped s (line_fault 33 line.tokens [])
+renumbered_by s row line None (Some p) = running (renumbered s row line p)
 
-pub record SetsLine (s : State) (line : LogicalLine) (progress : Progress) : Type 0 where
+pub record SetsLine (s : State) (row : ℕ) (line : LogicalLine) (progress : Progress) : Type 0 where
   pub expanded : Expansion
   pub expands : IsExpansion s.macros s.env s.meter (operands line.tokens) expanded
-  pub is : progress ≡ renumbered_by (with_meter s expanded.meter) line expanded.fault (presumed expanded.tokens)
+  pub is : progress ≡ renumbered_by (with_meter s expanded.meter) row line expanded.fault (presumed expanded.tokens)
 
 -- ---- `#include` (6.10.2)
 
@@ -149,10 +151,25 @@ noting_pop (Some name) s = with_macro_popped s name
 abbrev pub noting_macro_pragma : Profile → List Token → State → State
 noting_macro_pragma profile ts s = noting_pop (name_to_pop profile ts) (noting_push (name_to_push profile ts) s)
 
+-- the tokens begin with these words
+abbrev pub begins_with_words : List ℕ → List ℕ → List Token → Bool
+begins_with_words one two (t ∷ u ∷ ts) = bytes_eq t.text one && bytes_eq u.text two
+begins_with_words one two ts = false
+
+-- `#pragma GCC system_header` in an included file, in GNU C (gcc's manual, "System Headers"); the unit's own file has no directory
+abbrev pub is_system_header : Profile → Option ℕ → List Token → Bool
+is_system_header profile directory ts = is_gnu profile && (is_some directory && begins_with_words (codes "GCC") (codes "system_header") ts)
+
+-- the file at index `row` is a system header from the physical line after such a pragma on, which a mark says
+abbrev pub noting_system_header : Profile → ℕ → LogicalLine → State → State
+noting_system_header profile row line s =
+    if is_system_header profile s.directory (operands line.tokens) then marked (with_system_row true (record s { system = true }) row) mark_sort.Line row line.number else s
+
 -- a pragma without macro replacement is an item, and some have a meaning besides
-abbrev pub pragma_emitted : Profile → ℕ → State → List Token → State
+abbrev pub pragma_emitted : Profile → ℕ → State → LogicalLine → State
 pragma_emitted profile row s line =
-    noting_macro_pragma profile (operands line) (noting_pragma_once profile row (operands line) (emitted s (item.Pragma (hash_place line) (operands line) ∷ [])))
+    noting_system_header profile row line (noting_macro_pragma profile (operands line.tokens)
+    (noting_pragma_once profile row (operands line.tokens) (emitted s (item.Pragma (hash_place line.tokens) (operands line.tokens) ∷ []))))
 
 -- the words of a pragma after which GNU C replaces macros: `omp` is one where `_OPENMP` is a macro, and `acc` where `_OPENACC` is one
 abbrev pub expands_after : Macros → Name → Bool
@@ -177,8 +194,8 @@ pub record ExpandsPragma (s : State) (line : List Token) (tokens : List Token) (
   pub is : progress ≡ pragma_expanded (with_meter s expanded.meter) line expanded.fault expanded.tokens
 
 -- each pragma is an item; in some of them tokens are expanded, and others have a meaning besides
-abbrev pub ExecutesPragma : Option (List Token) → Profile → ℕ → State → List Token → Progress → Type 0
-ExecutesPragma (Some tokens) profile row s line progress = ExpandsPragma s line tokens progress
+abbrev pub ExecutesPragma : Option (List Token) → Profile → ℕ → State → LogicalLine → Progress → Type 0
+ExecutesPragma (Some tokens) profile row s line progress = ExpandsPragma s line.tokens tokens progress
 ExecutesPragma None profile row s line progress = progress ≡ running (pragma_emitted profile row s line)
 
 -- ---- directives among the arguments of a macro (6.10.3, paragraph 11; gcc executes them)
@@ -237,7 +254,7 @@ abbrev pub ExecutesDirective : Profile → ℕ → Option Directive → State �
 ExecutesDirective profile row (Some Null) s line progress = progress ≡ running s
 ExecutesDirective profile row (Some Define) s line progress = progress ≡ with_macros s (after_define profile s.macros (hash_place line.tokens) (operands line.tokens))
 ExecutesDirective profile row (Some Undef) s line progress = progress ≡ with_macros s (after_undef profile s.macros (hash_place line.tokens) (operands line.tokens))
-ExecutesDirective profile row (Some Line) s line progress = SetsLine s line progress
-ExecutesDirective profile row (Some Pragma) s line progress = ExecutesPragma (expanded_operands profile s.macros (operands line.tokens)) profile row s line.tokens progress
+ExecutesDirective profile row (Some Line) s line progress = SetsLine s row line progress
+ExecutesDirective profile row (Some Pragma) s line progress = ExecutesPragma (expanded_operands profile s.macros (operands line.tokens)) profile row s line progress
 ExecutesDirective profile row (Some Unknown) s line progress = progress ≡ stopped s (named_fault 8 line.tokens)
 ExecutesDirective _ _ _ s line progress = ⊥

@@ -16,11 +16,12 @@ use Rattle.ppshelf.specs.Content.{unreadable, readable}
 use Rattle.ppshelf.specs.Files.{file_at}
 use Rattle.ppshelf.specs.Names.{name_in}
 use Rattle.ppunit.specs.Dependencies.{has_row}
-use Rattle.ppunit.specs.States.{State, Context, search_of, Progress, running, stopped, with_dependency, entering, leaving, with_meter, with_one_spent}
+use Rattle.ppunit.specs.States.{State, Context, search_of, Progress, running, stopped, with_dependency, Opening, entering, leaving, with_meter, with_one_spent}
 use Rattle.ppunit.specs.DirectiveLines.{operands, line_fault, text_tokens}
 use Rattle.ppunit.specs.Quotes.{unmatched_quote}
 use Rattle.ppunit.specs.Conditions.{Decides}
 use Rattle.ppunit.specs.Including.{IncludeName}
+use Rattle.ppunit.specs.ShownNames.{opening_of}
 use Rattle.ppunit.specs.Directives.{EmitsText, refusal, at_end, ExecutesDirective, NamesHeader, FindsFile, message, checks_quotes}
 
 -- the largest include depth (5.2.4.1 requires at least 15)
@@ -121,45 +122,45 @@ mutual
     included : {depth row : ℕ} {previous_directory : Option ℕ} {s : State} {line : LogicalLine} {meter_after : Meter} (a : IncludeName) (found : ℕ × ℕ) {m : Progress}
         → NamesHeader s line.tokens meter_after (Ok a)
         → FindsFile context row previous_directory a (Some found)
-        → OpensFile context (suc depth) (hash_place line.tokens) (with_meter s meter_after) found.0 (Some found.1) m
+        → OpensFile context (suc depth) (hash_place line.tokens) (with_meter s meter_after) found.0 (opening_of context row s line a found) m
         → ExecutesInclude context depth row previous_directory s line m
 
-  -- Opening the file at index `row`. `at` is the location of the `#` of the include line, or 1:1 of the main file.
-  -- `directory` is the number of the directory in which the file was found; the main file has none. The opening fails if
-  -- it is too deep or the budget is exhausted. Otherwise it takes one from the budget, and the file is a dependency. If `#pragma once` was executed in this file before, nothing
-  -- else happens. Otherwise its content is needed: if the content is unknown, no rule applies.
-  pub data OpensFile (context : Context) : ℕ → Place → State → ℕ → Option ℕ → Progress → Type 0 where
-    too_deep : {depth row : ℕ} {directory : Option ℕ} {at : Place} {s : State}
+  -- Opening the file at index `row`. `at` is the location of the `#` of the include line, or 1:1 of the main file. The opening
+  -- fails if it is too deep or the budget is exhausted. Otherwise it takes one from the budget, and the file is a dependency.
+  -- If `#pragma once` was executed in this file before, nothing else happens. Otherwise its content is needed: if the content
+  -- is unknown, no rule applies.
+  pub data OpensFile (context : Context) : ℕ → Place → State → ℕ → Opening → Progress → Type 0 where
+    too_deep : {depth row : ℕ} {how : Opening} {at : Place} {s : State}
         → depth_limit < depth
-        → OpensFile context depth at s row directory (stopped s (fault 32 at (name_in context.names row)))
-    exhausted : {depth row : ℕ} {directory : Option ℕ} {at : Place} {s : State}
+        → OpensFile context depth at s row how (stopped s (fault 32 at (name_in context.names row)))
+    exhausted : {depth row : ℕ} {how : Opening} {at : Place} {s : State}
         → depth ≤ depth_limit
         → is_exhausted s.meter ≡ true
-        → OpensFile context depth at s row directory (stopped s (fault 35 at []))
-    not_read_again : {depth row : ℕ} {directory : Option ℕ} {at : Place} {s : State}
+        → OpensFile context depth at s row how (stopped s (fault 35 at []))
+    not_read_again : {depth row : ℕ} {how : Opening} {at : Place} {s : State}
         → depth ≤ depth_limit
         → is_exhausted s.meter ≡ false
         → has_row row s.once ≡ true
-        → OpensFile context depth at s row directory (running (with_dependency (with_one_spent s) row))
-    not_readable : {depth row : ℕ} {directory : Option ℕ} {at : Place} {s : State}
+        → OpensFile context depth at s row how (running (with_dependency (with_one_spent s) row))
+    not_readable : {depth row : ℕ} {how : Opening} {at : Place} {s : State}
         → depth ≤ depth_limit
         → is_exhausted s.meter ≡ false
         → has_row row s.once ≡ false
         → file_at context.files row ≡ Some unreadable
-        → OpensFile context depth at s row directory (stopped (with_dependency (with_one_spent s) row) (fault 6 at (name_in context.names row)))
-    content_fault : {depth row : ℕ} {directory : Option ℕ} {at : Place} {s : State} {bytes : List ℕ} {f : Fault}
+        → OpensFile context depth at s row how (stopped (with_dependency (with_one_spent s) row) (fault 6 at (name_in context.names row)))
+    content_fault : {depth row : ℕ} {how : Opening} {at : Place} {s : State} {bytes : List ℕ} {f : Fault}
         → depth ≤ depth_limit
         → is_exhausted s.meter ≡ false
         → has_row row s.once ≡ false
         → file_at context.files row ≡ Some (readable bytes)
         → Reads context.profile row bytes (Err f)
-        → OpensFile context depth at s row directory (stopped (with_dependency (with_one_spent s) row) f)
-    read : {depth row : ℕ} {directory : Option ℕ} {at : Place} {s : State} {bytes : List ℕ} {lines : List LogicalLine} {parts : GroupParts} {m : Progress}
+        → OpensFile context depth at s row how (stopped (with_dependency (with_one_spent s) row) f)
+    read : {depth row : ℕ} {how : Opening} {at : Place} {s : State} {bytes : List ℕ} {lines : List LogicalLine} {parts : GroupParts} {m : Progress}
         → depth ≤ depth_limit
         → is_exhausted s.meter ≡ false
         → has_row row s.once ≡ false
         → file_at context.files row ≡ Some (readable bytes)
         → Reads context.profile row bytes (Ok lines)
         → Tree lines parts
-        → ExecutesGroup context depth row (running (entering context (with_one_spent s) row directory)) parts m
-        → OpensFile context depth at s row directory (leaving s (at_end m))
+        → ExecutesGroup context depth row (running (entering at (with_one_spent s) row how)) parts m
+        → OpensFile context depth at s row how (leaving s how (at_end m))

@@ -5,7 +5,9 @@ use Rattle.ppshelf.specs.Files.{Files, file_at, Extends}
 use Rattle.ppunit.specs.declared.units.Unit.{Unit as UnitOfList}
 use Rattle.ppunit.specs.declared.units.Setting.{Setting}
 use Rattle.ppunit.specs.declared.units.UnitOut.{UnitOut}
-use Rattle.ppunit.specs.Unit.{IsUnit, count}
+use Rattle.ppunit.specs.Unit.{IsUnit, HasRows, count}
+use Rattle.ppunit.specs.Chain.{chain, without_main}
+use Rattle.ppunit.specs.IncludeStack.{include_stack}
 
 -- over the same files a unit has one value and one count
 abbrev pub HasOneValue : Type 0
@@ -27,11 +29,18 @@ Grows =
 abbrev pub KnowsAll : List (List ℕ) → Files → Type 0
 KnowsAll names files = (row : ℕ) → row < length names → IsSome (file_at files row)
 
--- if each file's content is known and the unit's file is one of them, the unit has a value, with any budget and without
+-- if each file's content is known and the unit's files are among them, the unit has a value, with any budget and without
 -- one
 abbrev pub HasSomeValue : Type 0
 HasSomeValue =
     (names : List (List ℕ)) (files : Files) (setting : Setting) (unit : UnitOfList)
     → KnowsAll names files
-    → unit.file < length names
+    → HasRows (length names) unit
     → (out : UnitOut) × IsUnit names files setting unit out
+
+-- the include chain, which the items of a value say, is the include stack of its derivation, without the unit's own file
+abbrev pub ChainIsStack : Type 0
+ChainIsStack =
+    (names : List (List ℕ)) (files : Files) (setting : Setting) (unit : UnitOfList) (out : UnitOut)
+    → (p : IsUnit names files setting unit out)
+    → chain out.items ≡ without_main (include_stack p)

@@ -4,13 +4,16 @@ pub mod DirectiveLines
 pub mod Quotes
 pub mod LineControl
 pub mod Including
+pub mod ShownNames
 pub mod Probing
 pub mod Conditions
 pub mod Directives
 pub mod Group
 pub mod Counts
 pub mod CommandFile
+pub mod Chain
 pub mod Unit
+pub mod IncludeStack
 pub mod Units
 pub mod Laws
 pub mod Capped

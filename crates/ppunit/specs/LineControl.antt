@@ -1,4 +1,4 @@
--- `#line` (6.10.4): the line after the directive gets a number, and the file may get a name.
+-- `#line` (6.10.4): the line after the directive gets a number, and the file may get a name. A mark says so.
 use Rattle.std.specs.Prelude.{ℕ, pos, ◌-ℤ◌, ◌+◌, ◌*◌, ◌-◌, List, [], ◌∷◌, Bool, true, false, ◌&&◌, nat_le, if◌then◌else◌, Option, None, Some, take}
 use Rattle.std.specs.List.{list_all}
 use Rattle.std.specs.Str.{bytes_eq}
@@ -7,7 +7,8 @@ use Rattle.pptext.specs.declared.tokens.Kind.{Kind}
 use Rattle.pptext.specs.declared.tokens.Kind.TheVariants.{Number, Str}
 use Rattle.pptext.specs.Spellings.{is_digit}
 use Rattle.pptext.specs.Lines.{LogicalLine}
-use Rattle.ppunit.specs.States.{State}
+use Rattle.ppunit.specs.declared.units.MarkSort.TheVariants as mark_sort
+use Rattle.ppunit.specs.States.{State, marked}
 
 -- the presumed number of a line, and the presumed name of its file, if it has one, as a string literal
 pub record Presumed : Type 0 where
@@ -57,6 +58,7 @@ abbrev pub or_old : List ℕ → Option (List ℕ) → List ℕ
 or_old old None = old
 or_old old (Some new) = new
 
--- the line after the directive's new-line gets the number
-abbrev pub renumbered : State → LogicalLine → Presumed → State
-renumbered s line p = record s { env = record s.env { name = or_old s.env.name p.name; shift = pos p.number -ℤ pos (line.number + 1) } }
+-- the line after the directive's new-line gets the number, and the file at index `row` goes on with a mark
+abbrev pub renumbered : State → ℕ → LogicalLine → Presumed → State
+renumbered s row line p =
+    marked (record s { env = record s.env { name = or_old s.env.name p.name; shift = pos p.number -ℤ pos (line.number + 1) } }) mark_sort.Line row line.number

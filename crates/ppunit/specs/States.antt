@@ -1,7 +1,8 @@
 -- The state of phase 4 in a unit (5.1.1.2, 6.10).
-use Rattle.std.specs.Prelude.{ℕ, pos, Bool, true, false, List, [], ◌∷◌, ◌++◌, Option, Some, None}
+use Rattle.std.specs.Prelude.{ℕ, ◌+◌, pos, ◌+ℤ◌, nat_abs, Bool, true, false, if◌then◌else◌, List, [], ◌∷◌, ◌++◌, Option, Some, None}
 use Rattle.std.specs.Option.{is_some}
 use Rattle.std.specs.FinMap as table
+use Rattle.pptext.specs.declared.tokens.Place.{Place}
 use Rattle.pptext.specs.declared.tokens.Token.{Token}
 use Rattle.pptext.specs.declared.tokens.Fault.{Fault}
 use Rattle.pptext.specs.declared.sources.Profile.{Profile}
@@ -13,20 +14,32 @@ use Rattle.ppexpand.specs.declared.env.Env.{Env}
 use Rattle.ppexpand.specs.declared.meter.Meter.{Meter}
 use Rattle.ppexpand.specs.Budget.{spend_one}
 use Rattle.ppshelf.specs.Files.{Files}
-use Rattle.ppshelf.specs.Names.{name_in}
-use Rattle.ppunit.specs.Dependencies.{with_row}
+use Rattle.ppunit.specs.Dependencies.{has_row, with_row}
 use Rattle.ppunit.specs.declared.states.FileContext.{FileContext}
+use Rattle.ppunit.specs.declared.states.Resumption.{Resumption}
 use Rattle.ppunit.specs.declared.units.Item.{Item}
+use Rattle.ppunit.specs.declared.units.Item.TheVariants as item
+use Rattle.ppunit.specs.declared.units.Mark.{Mark}
+use Rattle.ppunit.specs.declared.units.MarkSort.{MarkSort}
+use Rattle.ppunit.specs.declared.units.MarkSort.TheVariants.{Enter, Leave}
+use Rattle.ppunit.specs.declared.units.ShownDirectory.{ShownDirectory}
 use Rattle.ppunit.specs.declared.units.UnitOut.{UnitOut}
 
--- the context of a unit, which stays constant: the names of all files, their profile, their known contents, and the directories
--- that are searched, the unit's before the setting's
+-- how the files of a unit are shown: whether the unit shows names, and how the directories that are searched are shown, the
+-- unit's before the setting's
+pub record Showing : Type 0 where
+  pub shows_names : Bool
+  pub directories : List ShownDirectory
+
+-- the context of a unit, which stays constant: the names of all files, their profile, their known contents, the directories
+-- that are searched, the unit's before the setting's, and how files are shown
 pub record Context : Type 0 where
   pub names : List (List ℕ)
   pub profile : Profile
   pub files : Files
   pub unit_directories : List (List ℕ)
   pub setting_directories : List (List ℕ)
+  pub showing : Showing
 
 -- what a search for a file depends on: the context of a unit without the contents of files
 pub record Search : Type 0 where
@@ -63,16 +76,22 @@ pub record State : Type 0 where
   pub env : Env
   -- the number of the directory in which the current file was found; the main file has none
   pub directory : Option ℕ
+  -- the shown name of the current file: what stands before the names of headers that are found next to it
+  pub shown : List ℕ
+  -- whether the current file is a system header
+  pub system : Bool
+  -- the indices of the files that were system headers
+  pub system_rows : List ℕ
   -- the tokens of an invocation whose `)` is still to come, behind directives (6.10.3, paragraph 11)
   pub waiting : List Token
 
 -- the context of the current file
 abbrev pub file_context : State → FileContext
-file_context s = record { env = s.env; directory = s.directory }
+file_context s = record { env = s.env; directory = s.directory; shown = s.shown; system = s.system }
 
 -- the state with this context
 abbrev pub in_file_context : FileContext → State → State
-in_file_context c s = record s { env = c.env; directory = c.directory }
+in_file_context c s = record s { env = c.env; directory = c.directory; shown = c.shown; system = c.system }
 
 -- a unit is still running, or has stopped at its first fault
 pub record Progress : Type 0 where
@@ -133,11 +152,66 @@ output r = record { items = r.state.items; deps = r.state.deps; fault = r.fault 
 abbrev pub literal : List ℕ → List ℕ
 literal name = 34 ∷ (escaped_literal name ++ 34 ∷ [])
 
--- a file begins with its own name, line numbers and directory number
-abbrev pub entering : Context → State → ℕ → Option ℕ → State
-entering context s row directory =
-    record (with_dependency s row) { env = record s.env { name = literal (name_in context.names row); shift = pos 0 }; directory = directory }
+-- ---- marks
 
--- after it the context of the including file is restored
-abbrev pub leaving : State → Progress → Progress
-leaving s m = record m { state = in_file_context (file_context s) m.state }
+-- the mark of the line after a physical line of the file at index `row`: the presumed name and number of that line are those of
+-- the environment, and the file is a system header if it is one of `system_rows`
+abbrev pub mark_in : Env → List ℕ → MarkSort → ℕ → ℕ → Mark
+mark_in env system_rows sort row last =
+    record {
+      sort = sort;
+      row = row;
+      physical = last + 1;
+      line = nat_abs (pos (last + 1) +ℤ env.shift);
+      name = env.name;
+      system = has_row row system_rows;
+    }
+
+abbrev pub mark : State → MarkSort → ℕ → ℕ → Mark
+mark s sort row last = mark_in s.env s.system_rows sort row last
+
+abbrev pub marked : State → MarkSort → ℕ → ℕ → State
+marked s sort row last = emitted s (item.Mark (mark s sort row last) ∷ [])
+
+-- the state in which the current file has this presumed name, from its first line on
+abbrev pub named : State → List ℕ → State
+named s name = record s { env = record s.env { name = literal name; shift = pos 0 } }
+
+-- the state in which the file at index `row`, if the flag is set, is a system header from here on
+abbrev pub with_system_row : Bool → State → ℕ → State
+with_system_row system s row = record s { system_rows = if system then with_row row s.system_rows else s.system_rows }
+
+-- ---- opened files
+
+-- how a file is opened: the number of the directory in which it was found (the unit's own file has none), its shown name,
+-- whether it is a system header, and where the including file goes on after it (the unit's own file has no such file)
+pub record Opening : Type 0 where
+  pub directory : Option ℕ
+  pub shown : List ℕ
+  pub system : Bool
+  pub resumption : Option Resumption
+
+-- a file has its own names, line numbers and directory number
+abbrev pub in_file : State → ℕ → Opening → State
+in_file s row how = with_system_row how.system (record (named s how.shown) { directory = how.directory; shown = how.shown; system = how.system }) row
+
+-- a file begins with them, and with a mark; `at` is the location of the include line
+abbrev pub begun : Place → State → ℕ → Opening → State
+begun at s row how = marked (in_file s row how) (Enter at) row 0
+
+-- a file that is read is a dependency, and begins
+abbrev pub entering : Place → State → ℕ → Opening → State
+entering at s row how = begun at (with_dependency s row) row how
+
+-- the including file goes on with a mark, unless the unit has stopped
+abbrev pub resumed_by : Resumption → State → Option Fault → Progress
+resumed_by resumption s None = running (marked s Leave resumption.row resumption.last)
+resumed_by resumption s (Some f) = stopped s f
+
+abbrev pub resumed : Option Resumption → Progress → Progress
+resumed None m = m
+resumed (Some resumption) m = resumed_by resumption m.state m.fault
+
+-- after a file the context of the including file is restored, and that goes on
+abbrev pub leaving : State → Opening → Progress → Progress
+leaving s how m = resumed how.resumption (record m { state = in_file_context (file_context s) m.state })

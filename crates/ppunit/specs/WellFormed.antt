@@ -9,6 +9,7 @@ pub use Rattle.pptext.specs.Spellings.{is_digit}
 use Rattle.ppshelf.specs.Content.{longest}
 use Rattle.ppunit.specs.declared.units.Setting.{Setting}
 use Rattle.ppunit.specs.declared.units.Unit.{Unit as UnitOfList}
+use Rattle.ppunit.specs.declared.units.FirstFile.{FirstFile}
 use Rattle.ppunit.specs.Unit.{command_text}
 
 -- the number that two digits spell
@@ -72,10 +73,11 @@ equal_profiles _ _ = false
 abbrev pub is_setting : Setting → Bool
 is_setting setting = is_date setting.date && is_time setting.time
 
--- the file is one of `rows`, the definitions have the profile, each is one line, and the file that holds them has at
+-- the file and those that are read first are among `rows`, the definitions have the profile, each is one line, and the file that holds them has at
 -- most `longest` bytes
 abbrev pub is_unit : ℕ → Profile → UnitOfList → Bool
 is_unit rows profile unit =
     nat_lt unit.file rows
+    && list_all (λ (f : FirstFile). nat_lt f.file rows) unit.first
     && (equal_profiles unit.defines.profile profile && (list_all is_one_line unit.defines.texts && nat_le (length (command_text unit.defines.texts))
     longest))

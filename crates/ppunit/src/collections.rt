@@ -9,7 +9,7 @@ ghost use Rattle.ppunit.specs.declared.units.Item.TheVariants as item;
 ghost use Rattle.ppunit.specs.Dependencies.{has_row, with_row};
 
 use crate::items::ItemRef;
-use crate::units::Item;
+use crate::units::{Item, Mark};
 use indexmap::IndexSet;
 use ppexpand::{Piece, Scratch, TokenSlice};
 use ppmacro::Hidden;
@@ -66,14 +66,15 @@ impl Rows {
     }
 }
 
-/// A chunk of the items: consecutive tokens of a file, tokens that were emitted one by one, or a pragma with its location and its
-/// tokens, which are those of the file or were expanded.
+/// A chunk of the items: consecutive tokens of a file, tokens that were emitted one by one, a pragma with its location and its
+/// tokens, which are those of the file or were expanded, or a mark.
 #[derive(Drop)]
 pub(crate) enum Chunk<'a> {
     InFile(&'a [Token]),
     Singles(Vec<Hidden<'a>>),
     Pragma(Place, &'a [Token]),
     Expanded(Place, Vec<Token>),
+    Mark(Mark),
 }
 
 /// The items of a unit's output. Its model is their list.
@@ -143,6 +144,14 @@ impl<'a> Items<'a> {
         ensures { OnOk result (self.new ≡ self.old ++ item.Pragma at tokens.items ∷ []) }
     {
         self.chunks.push(Chunk::Expanded(at, tokens))?;
+        Ok(())
+    }
+
+    /// Appends a mark.
+    pub(crate) fn push_mark(&mut self, mark: Mark) -> Result<(), Memory>
+        ensures { OnOk result (self.new ≡ self.old ++ item.Mark mark ∷ []) }
+    {
+        self.chunks.push(Chunk::Mark(mark))?;
         Ok(())
     }
 
@@ -220,6 +229,7 @@ fn copy_chunk(alloc: Global, items: &mut Vec<Item>, chunk: &Chunk) -> Result<(),
         Chunk::Expanded(at, tokens) => {
             push_copy(alloc, items, ItemRef::Pragma(*at, tokens.as_slice()))
         }
+        Chunk::Mark(mark) => push_copy(alloc, items, ItemRef::Mark(mark)),
     }
 }
 

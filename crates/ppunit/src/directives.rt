@@ -1,5 +1,5 @@
 //! Control lines that open no file (6.10.3 to 6.10.7).
-ghost use Rattle.std.specs.Prelude.{◌≡◌, ◌++◌, IfOk, OnOk, Some, take, true};
+ghost use Rattle.std.specs.Prelude.{◌≡◌, ◌++◌, IfOk, OnOk, Some, codes, take, true};
 ghost use Rattle.std.specs.Option.{option_copied};
 ghost use Rattle.std.specs.Result.{result_err};
 ghost use Rattle.pptext.specs.Errors.{Raises, UnlessOutOfMemory};
@@ -15,6 +15,7 @@ use crate::including::inner;
 use crate::line_control::{is_plain_string, renumber};
 use crate::operand_expansion::expand_operands;
 use crate::states::State;
+use crate::units::MarkSort;
 use ppmacro::{DefineLine, Table, define, define_line, undef};
 use pptext::{Directive, Error, Memory, Profile, Token};
 use std::alloc::Global;
@@ -171,25 +172,58 @@ fn expand_pragma<'x>(
     Ok(())
 }
 
-/// Emits a pragma with its tokens (6.10.6). `#pragma once` keeps the file at index `row` from being read again, `#pragma push_macro`
-/// keeps a macro, and `#pragma pop_macro` brings it back.
+/// Returns whether the tokens after `#pragma` begin with `GCC system_header`.
+fn names_system_header(tokens: &[Token]) -> bool
+    ensures { result ≡ spec.begins_with_words (codes "GCC") (codes "system_header") tokens.now }
+{
+    match tokens {
+        [first, second, ..] => {
+            first.text.as_bytes() == b"GCC".as_slice()
+                && second.text.as_bytes() == b"system_header".as_slice()
+        }
+        _ => false,
+    }
+}
+
+/// Makes the file a system header after `#pragma GCC system_header`, unless it is the unit's own file (gcc's manual, "System
+/// Headers"), and emits a mark.
+fn note_system_header(
+    state: &mut State,
+    profile: Profile,
+    line: &DirectiveLine<'_>,
+) -> Result<(), Memory>
+    ensures { OnOk result (state.new ≡ spec.noting_system_header profile line.now.row (directed line.now.directive line.now.tokens line.now.number) state.old) }
+{
+    if !profile.is_gnu() || state.file_context.directory.is_none() {
+        return Ok(());
+    }
+    if !names_system_header(line.tokens.operands()) {
+        return Ok(());
+    }
+    state.file_context.system = true;
+    state.note_system(true, line.row)?;
+    state.emit_mark(MarkSort::Line, line.row, line.number)
+}
+
+/// Emits a pragma with its tokens (6.10.6). `#pragma once` keeps the file from being read again, `#pragma push_macro` keeps a macro,
+/// `#pragma pop_macro` brings it back, and `#pragma GCC system_header` makes the file a system header.
 fn pragma<'x>(
     state: &mut State<'x>,
     profile: Profile,
-    row: usize,
-    line: &DirectiveTokens<'x>,
+    line: &DirectiveLine<'x>,
 ) -> Result<(), Error>
-    ensures { UnlessOutOfMemory result (λ r. spec.ExecutesPragma (spec.expanded_operands profile state.old.macros (operands line.now)) profile row state.old line.now
-        (record { state = state.new; fault = result_err r })) }
+    ensures { UnlessOutOfMemory result (λ r. spec.ExecutesPragma (spec.expanded_operands profile state.old.macros (operands line.now.tokens)) profile line.now.row state.old
+        (directed line.now.directive line.now.tokens line.now.number) (record { state = state.new; fault = result_err r })) }
 {
-    let tokens = line.operands();
+    let tokens = line.tokens.operands();
     if let Some(operands) = expanded_operands(profile, &state.macros, tokens) {
-        return expand_pragma(state, line, operands);
+        return expand_pragma(state, &line.tokens, operands);
     }
-    state.emit_pragma(line.hash_place(), tokens)?;
-    note_once(state, profile, row, tokens)?;
+    state.emit_pragma(line.tokens.hash_place(), tokens)?;
+    note_once(state, profile, line.row, tokens)?;
     push_named(state, profile, tokens)?;
     pop_named(state, profile, tokens)?;
+    note_system_header(state, profile, line)?;
     Ok(())
 }
 
@@ -218,8 +252,8 @@ fn control_any<'x>(
     match line.directive {
         Directive::Define => define(alloc, &mut state.macros, profile, at, operands),
         Directive::Undef => undef(alloc, &mut state.macros, profile, at, operands),
-        Directive::Line => renumber(alloc, state, &line.tokens, line.number),
-        Directive::Pragma => pragma(state, profile, line.row, &line.tokens),
+        Directive::Line => renumber(alloc, state, line.row, &line.tokens, line.number),
+        Directive::Pragma => pragma(state, profile, &line),
         Directive::Unknown => unknown(alloc, &line.tokens),
         _ => Ok(()),
     }

@@ -19,9 +19,10 @@ pub(crate) fn is_left_out(state: &State, source: &Source) -> bool
     }
 }
 
-/// Theorem: opening a file that is one if-section under a defined guard (6.10.1) adds a dependency and spends one of
-/// the budget, and changes nothing else, if the file isn't too deep, the budget isn't exhausted and no invocation waits
-/// for its `)`. If the file names are distinct, it has no other outcome.
+/// Theorem: opening a file that is one if-section under a defined guard (6.10.1) adds a dependency, spends one of the
+/// budget and emits the marks of its beginning and its end, and changes nothing else, if the file isn't too deep, the budget
+/// isn't exhausted, the file may be read again and no invocation waits for its `)`. If the file names are distinct, it has no
+/// other outcome.
 pub fn guard_changes_nothing()
     ensures leaves_out { GuardsLeaveOut }
     ensures only { GuardsOnlyLeaveOut }

@@ -3,16 +3,18 @@ ghost use Rattle.std.specs.Prelude.{◌≡◌, ◌≤◌, ◌∷◌, [], Some, l
 ghost use Rattle.ppunit.specs.code.Walk.{next_file, next_suspended, contexts_restored};
 
 use crate::open_file::{Entered, OpenFile};
-use crate::states::{FileContext, State};
+use crate::states::{FileContext, Resumption, State};
 use pptext::Memory;
 use std::alloc::Global;
 use std::marker::Model;
 
-/// A suspended file, which includes the next file on the stack or the file that is being processed, and its context.
+/// A suspended file, which includes the next file on the stack or the file that is being processed, its context, and the line at
+/// which it goes on.
 #[derive(Drop)]
 pub(crate) struct SuspendedFile<'a> {
     pub file: OpenFile<'a>,
     pub file_context: FileContext,
+    pub resumption: Option<Resumption>,
 }
 
 impl<'a> Model for SuspendedFile<'a> {
@@ -20,7 +22,7 @@ impl<'a> Model for SuspendedFile<'a> {
 
     ghost Value = { SuspendedFile };
 
-    ghost view = { λ w. record { file = w.file; file_context = w.file_context } };
+    ghost view = { λ w. record { file = w.file; file_context = w.file_context; resumption = w.resumption } };
 }
 
 /// The suspended files, each included by the one before it. Its model is their list in reverse order, the innermost first.
@@ -66,7 +68,12 @@ impl<'a> Stack<'a> {
         ensures suspended { OnOk result (self.new ≡ next_suspended file.entry (Some entered.entry) self.old) }
     {
         let file_context = entered.outer;
-        self.files.push(SuspendedFile { file, file_context })?;
+        let resumption = entered.resumption;
+        self.files.push(SuspendedFile {
+            file,
+            file_context,
+            resumption,
+        })?;
         Ok(entered.file)
     }
 
@@ -77,7 +84,7 @@ impl<'a> Stack<'a> {
         self.files.pop()
     }
 
-    /// Drops all files, and restores the context of each, from the last one on.
+    /// Drops all files, and restores the context of each, from the last one on. None of them goes on.
     pub(crate) fn unwind(self, state: &mut State)
         ensures { state.new ≡ contexts_restored self.entry state.old }
     {

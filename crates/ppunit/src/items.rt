@@ -1,22 +1,23 @@
 //! Iterates over items: over slices of them, or one by one.
-ghost use Rattle.std.specs.Prelude.{◌≡◌, ◌<◌, [], true, false, length, IfOk};
+ghost use Rattle.std.specs.Prelude.{◌≡◌, ◌<◌, ◌≤◌, [], true, false, length, IfOk};
 ghost use Rattle.std.specs.Iterator.{YieldsFirstBy, item_count};
 ghost use Rattle.ppexpand.specs.Slices.{YieldsSlice};
-ghost use Rattle.ppunit.specs.BorrowedItems.{ref_item, slice_items};
+ghost use Rattle.ppunit.specs.BorrowedItems.{marks, ref_item, slice_items};
 ghost use Rattle.ppunit.specs.code.Chunks.{chunk_items};
 
 use crate::collections::{Chunk, Items};
-use crate::units::Item;
+use crate::units::{Item, Mark};
 use ppexpand::{SliceIter, TokenRef, TokenSlice};
 use pptext::{Memory, Place, Token, Tokens};
 use std::alloc::Global;
 use std::marker::Model;
 
-/// A borrowed item: a token, or the location and the tokens of a pragma (6.10.6).
+/// A borrowed item: a token, the location and the tokens of a pragma (6.10.6), or a mark.
 #[derive(Clone, Copy)]
 pub enum ItemRef<'r, 'a> {
     Token(TokenRef<'r, 'a>),
     Pragma(Place, &'r [Token]),
+    Mark(&'r Mark),
 }
 
 impl<'r, 'a> ItemRef<'r, 'a> {
@@ -30,15 +31,17 @@ impl<'r, 'a> ItemRef<'r, 'a> {
                 let tokens = Tokens::new(Vec::from_clones(alloc, tokens)?);
                 Ok(Item::Pragma(*at, tokens))
             }
+            ItemRef::Mark(mark) => Ok(Item::Mark(mark.copy()?)),
         }
     }
 }
 
-/// Consecutive items, borrowed as they are stored: tokens, or the location and the tokens of one pragma (6.10.6).
+/// Consecutive items, borrowed as they are stored: tokens, the location and the tokens of one pragma (6.10.6), or a mark.
 #[derive(Clone, Copy)]
 pub enum ItemSlice<'r, 'a> {
     Tokens(TokenSlice<'r, 'a>),
     Pragma(Place, &'r [Token]),
+    Mark(&'r Mark),
 }
 
 impl<'a> Chunk<'a> {
@@ -51,6 +54,7 @@ impl<'a> Chunk<'a> {
             Chunk::Singles(tokens) => ItemSlice::Tokens(TokenSlice::Hidden(tokens.as_slice())),
             Chunk::Pragma(at, tokens) => ItemSlice::Pragma(*at, tokens),
             Chunk::Expanded(at, tokens) => ItemSlice::Pragma(*at, tokens.as_slice()),
+            Chunk::Mark(mark) => ItemSlice::Mark(mark),
         }
     }
 }
@@ -64,6 +68,7 @@ impl<'r, 'a> ItemSlice<'r, 'a> {
         match self {
             ItemSlice::Tokens(tokens) => tokens.is_empty(),
             ItemSlice::Pragma(_, _) => false,
+            ItemSlice::Mark(_) => false,
         }
     }
 }
@@ -94,6 +99,13 @@ impl<'r, 'a> ItemSlices<'r, 'a> {
         ItemSlices {
             chunks: self.chunks,
         }
+    }
+
+    /// Returns a number that is no less than the number of the remaining marks.
+    pub fn most_marks(&self) -> usize
+        ensures { marks self.now ≤ result }
+    {
+        self.chunks.len()
     }
 }
 
@@ -149,6 +161,7 @@ impl<'r, 'a> Iterator for ItemsIter<'r, 'a> {
             match self.slices.next()? {
                 ItemSlice::Tokens(tokens) => self.tokens = tokens.iter(),
                 ItemSlice::Pragma(at, tokens) => return Some(ItemRef::Pragma(at, tokens)),
+                ItemSlice::Mark(mark) => return Some(ItemRef::Mark(mark)),
             }
         }
     }

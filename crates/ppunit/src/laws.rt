@@ -1,6 +1,6 @@
 //! Theorems about units: functions that do nothing, whose contracts state the theorems. They call the theorems that
 //! they rest on.
-ghost use Rattle.ppunit.specs.Laws.{HasOneValue, HasSomeValue, Grows};
+ghost use Rattle.ppunit.specs.Laws.{HasOneValue, HasSomeValue, Grows, ChainIsStack};
 ghost use Rattle.ppunit.specs.Capped.{StaysInBudget, BudgetCaps, LargerBudgetsGiveNoLess, OnlyBudgetsRefuse};
 
 use ppexpand::one_expansion;
@@ -36,6 +36,12 @@ pub fn some_value()
 /// replacements and opened files.
 pub fn growth()
     ensures { Grows }
+{}
+
+/// Theorem: the include chain, which the marks among a unit's items say, is the include stack of the derivation of its value,
+/// without the unit's own file.
+pub fn chain_is_stack()
+    ensures { ChainIsStack }
 {}
 
 /// Theorem: the replacements and opened files of a unit total at most its budget.

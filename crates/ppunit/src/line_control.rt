@@ -12,6 +12,7 @@ ghost use Rattle.ppunit.specs.Directives.{SetsLine};
 use crate::directive_line::{DirectiveTokens, line_fault};
 use crate::operand_expansion::expand_operands;
 use crate::states::State;
+use crate::units::MarkSort;
 use crate::well_formed::is_digit;
 use ppexpand::Env;
 use pptext::{Error, Kind, Memory, Spelling, Token};
@@ -112,18 +113,21 @@ fn set_presumed(env: &mut Env, presumed: Presumed, physical: u32)
     rename(env, presumed.name);
 }
 
-/// Executes `#line` (6.10.4): gives the line after the directive's new-line a number, and the file a name if there is
-/// one. The new-line ends the physical line `physical`. Fails with a fault of macro replacement, or fault 33.
+/// Executes `#line` (6.10.4): gives the line after the directive's new-line a number, and the file at index `row` a name if
+/// there is one, and emits a mark. The new-line ends the physical line `physical`. Fails with a fault of macro replacement, or
+/// fault 33.
 pub(crate) fn renumber<'x>(
     alloc: Global,
     state: &mut State<'x>,
+    row: usize,
     line: &DirectiveTokens<'x>,
     physical: u32,
 ) -> Result<(), Error>
-    ensures { UnlessOutOfMemory result (λ r. SetsLine state.old (directed Line line.now physical) (record { state = state.new; fault = result_err r })) }
+    ensures { UnlessOutOfMemory result (λ r. SetsLine state.old row (directed Line line.now physical) (record { state = state.new; fault = result_err r })) }
 {
     let tokens = expand_operands(state, line.operands())?;
     let presumed = presumed_or_fault(alloc, line, tokens.as_slice())?;
     set_presumed(&mut state.file_context.env, presumed, physical);
+    state.emit_mark(MarkSort::Line, row, physical)?;
     Ok(())
 }

@@ -22,7 +22,9 @@ ghost use Rattle.ppshelf.specs.Files.{Files};
 ghost use Rattle.ppunit.specs.Group.{ExecutesControlLine, ExecutesInclude};
 ghost use Rattle.ppunit.specs.States.{Context, Progress, with_meter};
 ghost use Rattle.ppunit.specs.code.Contexts.{context_over, search_in_unit};
+ghost use Rattle.ppunit.specs.ShownNames.{opening_of};
 ghost use Rattle.ppunit.specs.code.Lines.{directed, line_refusal};
+ghost use Rattle.ppunit.specs.code.Opening.{opening_in};
 ghost use Rattle.ppunit.specs.code.Preprocessor.{KeepsContext};
 ghost use Rattle.ppunit.specs.code.Walk.{line_at, IsTextLine, StartsWithoutTextLine, EnclosingSections, BranchesAt, TakesBranch, FindsBranch, Advances, Leads, Steps, Walks};
 
@@ -30,14 +32,15 @@ use crate::conditions::decide;
 use crate::directive_line::{DirectiveLine, DirectiveTokens, line_fault, refuse_unmatched_quote};
 use crate::directives::{control, define_as_read, error};
 use crate::include_stack::Stack;
-use crate::including::read_include_name;
-use crate::open_file::{Entered, LocatedFile, OpenFile, UnitContext, find_file};
+use crate::including::{IncludeName, read_include_name};
+use crate::open_file::{Entered, LocatedFile, OpenFile, Opening, UnitContext, find_file};
 use crate::preprocessor::Preprocessor;
-use crate::states::State;
+use crate::shown_names::{is_system, shown_name};
+use crate::states::{Resumption, State};
 use crate::waiting::{emit_text, refuse_among_arguments, refuse_at_end};
 use ppmacro::DefineLine;
 use ppshelf::Disk;
-use pptext::{Class, Directive, Error, Profile, Source};
+use pptext::{Class, Directive, Error, Memory, Profile, Source};
 use std::alloc::Global;
 use std::marker::Model;
 
@@ -202,6 +205,31 @@ fn previous_directory(include_next: bool, state: &State) -> Option<usize>
     }
 }
 
+/// Returns how a file is opened that was found for an include line, given its index and the number of its directory.
+fn opening_of<D: Disk>(
+    context: &UnitContext<'_, '_, D>,
+    state: &State,
+    line: &DirectiveLine<'_>,
+    include_name: &IncludeName,
+    found: (usize, usize),
+) -> Result<Opening, Memory>
+    ensures row { IfOk result (λ o. o.row ≡ found.0) }
+    ensures opening { (files : Files) → IfOk result (λ o. opening_in context.now.shelf.names o
+        ≡ opening_of (context_over context.now files) line.now.row state.now (directed line.now.directive line.now.tokens line.now.number) include_name.now found) }
+{
+    let (row, number) = found;
+    Ok(Opening {
+        row,
+        directory: Some(number),
+        shown: shown_name(context, state, include_name, number)?,
+        system: is_system(context, state, number),
+        resumption: Some(Resumption {
+            row: line.row,
+            last: line.number,
+        }),
+    })
+}
+
 /// Where execution continues: in the file `entered`, if there is one, and after it at the line at `index` of the current
 /// file.
 #[derive(Drop)]
@@ -230,32 +258,34 @@ fn in_same_file<'a>(index: usize) -> NextLine<'a>
 }
 
 impl<'x, 'a: 'x, D: Disk> Preprocessor<'_, 'x, 'a, D> {
-    /// Executes an include line: opens the file that it names, one level deeper. If `from` has a directory number, only
-    /// the directories after that one are searched.
+    /// Executes an include line: opens the file that it names, one level deeper. If there is a directory number, only the
+    /// directories after that one are searched.
     fn include(
         &mut self,
         depth: u32,
-        from: LocatedFile,
-        tokens: &DirectiveTokens<'x>,
+        directory: Option<usize>,
+        line: &DirectiveLine<'x>,
     ) -> Result<Option<Entered<'a>>, Error>
         requires depth { depth ≤ 200 }
         ensures keeps_context { KeepsContext self.old self.new }
         ensures includes { UnlessOutOfMemory result (λ outcome.
-            (directive : Directive) (number : ℕ)
-            → Leads (context_over self.old.context.now) self.new.pass.now.files (suc depth)
-            (λ (more : Files) (m : Progress). ExecutesInclude (context_over self.old.context.now more) depth from.row from.directory self.old.state (directed directive tokens.now number) m)
+            Leads (context_over self.old.context.now) self.new.pass.now.files (suc depth)
+            (λ (more : Files) (m : Progress).
+            ExecutesInclude (context_over self.old.context.now more) depth line.now.row directory self.old.state (directed line.now.directive line.now.tokens line.now.number) m)
             self.new.state outcome) }
     {
         let context = self.context;
+        let tokens = &line.tokens;
         let include_name = read_include_name(context.alloc, &mut self.state, tokens)?;
-        let Some((row, directory)) = find_file(context, self.pass, from, &include_name)? else {
+        let from = LocatedFile {
+            row: line.row,
+            directory,
+        };
+        let Some(found) = find_file(context, self.pass, from, &include_name)? else {
             let name = include_name.name.as_bytes();
             return Err(line_fault(context.alloc, 31, tokens, name));
         };
-        let opening = LocatedFile {
-            row,
-            directory: Some(directory),
-        };
+        let opening = opening_of(context, &self.state, line, &include_name, found)?;
         self.open(depth + 1, tokens.hash_place(), opening)
     }
 
@@ -280,9 +310,8 @@ impl<'x, 'a: 'x, D: Disk> Preprocessor<'_, 'x, 'a, D> {
             Class::Ignored => Ok(None),
             Class::Includes(include_next) => {
                 refuse_line(context.alloc, &self.state, &line)?;
-                let row = line.row;
                 let directory = previous_directory(include_next, &self.state);
-                self.include(depth, LocatedFile { row, directory }, &line.tokens)
+                self.include(depth, directory, &line)
             }
             _ => {
                 refuse_line(context.alloc, &self.state, &line)?;
@@ -371,12 +400,13 @@ impl<'x, 'a: 'x, D: Disk> Preprocessor<'_, 'x, 'a, D> {
         })
     }
 
-    /// Executes phase 4 on the lines of a file and of all files that they include, up to the first fault.
-    pub(crate) fn walk(&mut self, first: OpenFile<'x>) -> Result<(), Error>
+    /// Executes phase 4 on the lines of a file at this depth and of all files that they include, up to the first fault.
+    pub(crate) fn walk(&mut self, depth: u32, first: OpenFile<'x>) -> Result<(), Error>
+        requires depth { depth ≤ 200 }
         requires begins { first.index ≡ 0 }
         ensures keeps_context { KeepsContext self.old self.new }
         ensures walk { UnlessOutOfMemory result (λ r.
-            Walks (context_over self.old.context.now) self.new.pass.now.files 0 first.entry.row first.entry.lines self.old.state
+            Walks (context_over self.old.context.now) self.new.pass.now.files depth first.entry.row first.entry.lines self.old.state
             (record { state = self.new.state; fault = result_err r })) }
     {
         let context = self.context;
@@ -384,7 +414,7 @@ impl<'x, 'a: 'x, D: Disk> Preprocessor<'_, 'x, 'a, D> {
         let mut file = first;
         loop {
             if file.index < file.source.line_count() {
-                match self.step(suspended.depth(), &file) {
+                match self.step(suspended.depth() + depth, &file) {
                     Ok(next) => {
                         let NextLine { index, entered } = next;
                         file.index = index;
@@ -407,6 +437,7 @@ impl<'x, 'a: 'x, D: Disk> Preprocessor<'_, 'x, 'a, D> {
                     return Ok(());
                 };
                 self.state.restore_context(outer.file_context);
+                self.state.resume(outer.resumption)?;
                 file = outer.file;
             }
         }

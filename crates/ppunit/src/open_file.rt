@@ -5,8 +5,8 @@
 //! needs no content, and one that can't be read is a dependency too. A file whose include guard is defined is read and
 //! then skipped as a whole: its lines would only be stepped over.
 //!
-//! A file is opened here and walked in `line_walk`: `open` returns the file and the context that is restored after it,
-//! so that no function calls itself for an included file.
+//! A file is opened here and walked in `line_walk`: `open` returns the file, the context that is restored after it, and the
+//! line at which the including file goes on, so that no function calls itself for an included file.
 ghost use Rattle.std.specs.Prelude.{◌≡◌, ◌<◌, ◌^◌, pos, length, IfOk, OnOk, IfErr, IfSome};
 ghost use Rattle.std.specs.Result.{result_err};
 ghost use Rattle.pptext.specs.Errors.{UnlessOutOfMemory};
@@ -15,20 +15,23 @@ ghost use Rattle.ppshelf.specs.Names.{name_in};
 ghost use Rattle.ppunit.specs.Dependencies.{has_row};
 ghost use Rattle.ppunit.specs.Directives.{FindsFile};
 ghost use Rattle.ppunit.specs.Group.{OpensFile};
+ghost use Rattle.ppunit.specs.ShownNames.{shown_or_own};
 ghost use Rattle.ppunit.specs.code.Preprocessor.{KeepsContext};
-ghost use Rattle.ppunit.specs.code.Opening.{SpendsOpening, HasLines, HasFault, Begins};
-ghost use Rattle.ppunit.specs.States.{Progress, with_dependency, literal};
+ghost use Rattle.ppunit.specs.code.Opening.{SpendsOpening, HasLines, HasFault, Begins, opening_in, shown_as};
+ghost use Rattle.ppunit.specs.States.{Progress, file_context, with_dependency, literal, begun, leaving, running};
 ghost use Rattle.ppunit.specs.code.Contexts.{context_over};
 ghost use Rattle.ppunit.specs.code.Walk.{Leads};
 
 use crate::guards::is_left_out;
 use crate::including::IncludeName;
 use crate::preprocessor::Preprocessor;
-use crate::states::{FileContext, State, literal};
+use crate::shown_names::Showing;
+use crate::states::{FileContext, Resumption, State, literal};
+use crate::units::{Mark, MarkSort};
 use ppexpand::Env;
 use ppmacro::PreparedSource;
 use ppshelf::{Directories, Disk, Pass, Shelf, resolve, resolve_next};
-use pptext::{Error, Memory, Place, Profile, Source};
+use pptext::{Error, Memory, Place, Profile, Source, Spelling};
 use std::alloc::Global;
 use std::marker::Model;
 
@@ -36,13 +39,14 @@ use std::marker::Model;
 /// include line.
 const DEEPEST: u32 = 200;
 
-/// What does not change within a unit: the file table, the disk, and the directories that are searched. Its model is
-/// the file table and the directories.
+/// What does not change within a unit: the file table, the disk, the directories that are searched, and how files are shown. Its
+/// model is the file table, the directories and how files are shown.
 pub(crate) struct UnitContext<'a, 'b, D: Disk> {
     pub alloc: Global,
     shelf: &'a Shelf<D>,
     disk: &'b D,
     directories: Directories<'b>,
+    showing: Showing<'b>,
 }
 
 impl<'a, 'b, D: Disk> Model for UnitContext<'a, 'b, D> {
@@ -54,6 +58,7 @@ impl<'a, 'b, D: Disk> Model for UnitContext<'a, 'b, D> {
       shelf = a.shelf.now;
       unit_directories = a.directories.unit.now;
       setting_directories = a.directories.setting.now;
+      showing = a.showing;
     } };
 }
 
@@ -64,22 +69,25 @@ impl<D: Disk> Drop for UnitContext<'_, '_, D> {
             shelf: _,
             disk: _,
             directories: _,
+            showing: _,
         } = self;
     }
 }
 
 impl<'a, 'b, D: Disk> UnitContext<'a, 'b, D> {
-    /// Bundles a file table, its disk, and directories.
+    /// Bundles a file table, its disk, directories, and how files are shown.
     pub(crate) fn new(
         alloc: Global,
         shelf: &'a Shelf<D>,
         disk: &'b D,
         directories: Directories<'b>,
+        showing: Showing<'b>,
     ) -> UnitContext<'a, 'b, D>
         ensures { result ≡ record {
           shelf = shelf.now;
           unit_directories = directories.entry.unit.now;
           setting_directories = directories.entry.setting.now;
+          showing = showing.entry;
         } }
     {
         UnitContext {
@@ -87,6 +95,7 @@ impl<'a, 'b, D: Disk> UnitContext<'a, 'b, D> {
             shelf,
             disk,
             directories,
+            showing,
         }
     }
 
@@ -104,8 +113,15 @@ impl<'a, 'b, D: Disk> UnitContext<'a, 'b, D> {
         self.shelf.profile()
     }
 
+    /// Returns how files are shown.
+    pub(crate) fn showing(&self) -> &Showing<'b>
+        ensures { result.now ≡ self.now.showing }
+    {
+        &self.showing
+    }
+
     /// Returns the directories that are searched.
-    fn directories(&self) -> Directories<'b>
+    pub(crate) fn directories(&self) -> Directories<'b>
         ensures unit { result.unit.now ≡ self.now.unit_directories }
         ensures setting { result.setting.now ≡ self.now.setting_directories }
     {
@@ -152,11 +168,12 @@ impl<'a> OpenFile<'a> {
     }
 }
 
-/// A file that was just opened, and the context of the file that includes it.
+/// A file that was just opened, the context of the file that includes it, and where that goes on.
 #[derive(Drop)]
 pub(crate) struct Entered<'a> {
     pub file: OpenFile<'a>,
     pub outer: FileContext,
+    pub resumption: Option<Resumption>,
 }
 
 impl<'a> Model for Entered<'a> {
@@ -164,19 +181,45 @@ impl<'a> Model for Entered<'a> {
 
     ghost Value = { Entered };
 
-    ghost view = { λ e. record { file = e.file; outer = e.outer } };
+    ghost view = { λ e. record { file = e.file; outer = e.outer; resumption = e.resumption } };
 }
 
-/// A file to open, or an open file: its index in the file table, and the number of the directory in which it was found.
-/// The main file has no such number.
+/// An open file: its index in the file table, and the number of the directory after which a search begins, if it doesn't begin
+/// with the directory of the file.
 #[derive(Clone, Copy)]
 pub(crate) struct LocatedFile {
     pub row: usize,
     pub directory: Option<usize>,
 }
 
+/// A file to open: its index in the file table, the number of the directory in which it was found (the main file has none), its
+/// shown name unless that is its name in the file table, whether it is a system header, and where the including file goes on
+/// after it.
+#[derive(Drop)]
+pub(crate) struct Opening {
+    pub row: usize,
+    pub directory: Option<usize>,
+    pub shown: Option<Spelling>,
+    pub system: bool,
+    pub resumption: Option<Resumption>,
+}
+
+impl Model for Opening {
+    ghost use Rattle.ppunit.specs.code.Opening.{ToOpen};
+
+    ghost Value = { ToOpen };
+
+    ghost view = { λ o. record {
+      row = o.row;
+      directory = o.directory;
+      shown = o.shown;
+      system = o.system;
+      resumption = o.resumption;
+    } };
+}
+
 /// Returns the predefined names at the beginning of a file.
-fn file_env(alloc: Global, outer: &Env, name: &str) -> Result<Env, Memory>
+fn file_env(alloc: Global, outer: &Env, name: &[u8]) -> Result<Env, Memory>
     ensures { IfOk result (λ e. e ≡ record outer.now { name = literal name.now; shift = pos 0 }) }
 {
     Ok(Env {
@@ -278,25 +321,91 @@ fn record_dependency(state: &mut State, row: usize) -> Result<bool, Memory>
     Ok(is_once)
 }
 
-/// Enters a file with this name and these lines, before its first line. Returns nothing if its include guard is
+/// Returns the name under which a file is shown that is to be opened.
+fn opened_name<'r, D: Disk>(context: &'r UnitContext<'_, '_, D>, opening: &'r Opening) -> &'r [u8]
+    requires { opening.now.row < length context.now.shelf.names }
+    ensures { result.now ≡ shown_or_own context.now.shelf.names opening.now.row opening.now.shown }
+{
+    match &opening.shown {
+        Some(shown) => shown.as_bytes(),
+        None => context.shelf().name(opening.row).as_bytes(),
+    }
+}
+
+/// Enters a file under this shown name. Returns the context of the including file.
+fn enter_file(
+    alloc: Global,
+    state: &mut State,
+    at: Place,
+    opening: &Opening,
+    name: &[u8],
+) -> Result<FileContext, Memory>
+    ensures outer { IfOk result (λ outer. outer ≡ file_context state.old) }
+    ensures begun { OnOk result (state.new ≡ begun at state.old opening.now.row (shown_as name.now opening.now)) }
+{
+    let env = file_env(alloc, &state.file_context.env, name)?;
+    let shown = Spelling::from_slice(alloc, name)?;
+    let outer = state.enter(FileContext {
+        env,
+        directory: opening.directory,
+        shown,
+        system: opening.system,
+    });
+    state.note_system(opening.system, opening.row)?;
+    state.emit_mark(MarkSort::Enter(at), opening.row, 0)?;
+    Ok(outer)
+}
+
+/// Enters a file under this shown name, and leaves it at once: emits two marks.
+fn skip_file(
+    alloc: Global,
+    state: &mut State,
+    at: Place,
+    opening: &Opening,
+    name: &[u8],
+) -> Result<(), Memory>
+    ensures { OnOk result (running state.new ≡ leaving state.old (shown_as name.now opening.now)
+        (running (begun at state.old opening.now.row (shown_as name.now opening.now)))) }
+{
+    state.note_system(opening.system, opening.row)?;
+    if !state.keeps {
+        return Ok(());
+    }
+    let mark = Mark {
+        sort: MarkSort::Enter(at),
+        row: opening.row,
+        physical: 1,
+        line: 1,
+        name: literal(alloc, name)?,
+        system: state.system_rows.contains(opening.row),
+    };
+    state.items.push_mark(mark)?;
+    state.resume(opening.resumption)
+}
+
+/// Enters a file with these lines under this shown name, before its first line. Returns nothing if its include guard is
 /// defined: then its lines have no effect, and neither has its end, unless an invocation waits.
 fn begin<'a>(
     alloc: Global,
     state: &mut State,
-    opening: LocatedFile,
-    name: &str,
+    at: Place,
+    opening: &Opening,
+    name: &[u8],
     source: &'a PreparedSource,
 ) -> Result<Option<Entered<'a>>, Memory>
-    ensures { IfOk result (λ entered. Begins name.now opening.row opening.directory source.now state.old state.new entered) }
+    ensures { IfOk result (λ entered. Begins at opening.now.row (shown_as name.now opening.now) source.now state.old state.new entered) }
 {
     if !state.is_waiting() && is_left_out(state, source.source()) {
+        skip_file(alloc, state, at, opening, name)?;
         return Ok(None);
     }
-    let env = file_env(alloc, &state.file_context.env, name)?;
-    let directory = opening.directory;
-    let outer = state.enter(FileContext { env, directory });
+    let outer = enter_file(alloc, state, at, opening, name)?;
     let file = OpenFile::new(opening.row, source);
-    Ok(Some(Entered { file, outer }))
+    Ok(Some(Entered {
+        file,
+        outer,
+        resumption: opening.resumption,
+    }))
 }
 
 impl<'a, D: Disk> Preprocessor<'_, '_, 'a, D> {
@@ -328,13 +437,14 @@ impl<'a, D: Disk> Preprocessor<'_, '_, 'a, D> {
         &mut self,
         depth: u32,
         at: Place,
-        opening: LocatedFile,
+        opening: Opening,
     ) -> Result<Option<Entered<'a>>, Error>
         requires { opening.row < length self.old.context.now.shelf.names }
         ensures keeps_context { KeepsContext self.old self.new }
         ensures opened { UnlessOutOfMemory result (λ outcome.
             Leads (context_over self.old.context.now) self.new.pass.now.files depth
-            (λ (more : Files) (m : Progress). OpensFile (context_over self.old.context.now more) depth at self.old.state opening.row opening.directory m)
+            (λ (more : Files) (m : Progress).
+            OpensFile (context_over self.old.context.now more) depth at self.old.state opening.row (opening_in self.old.context.now.shelf.names opening) m)
             self.new.state outcome) }
     {
         let context = self.context;
@@ -344,7 +454,8 @@ impl<'a, D: Disk> Preprocessor<'_, '_, 'a, D> {
             return Ok(None);
         }
         let source = self.source_of(at, row)?;
-        let name = context.shelf().name(row);
-        Ok(begin(context.alloc, &mut self.state, opening, name, source)?)
+        let name = opened_name(context, &opening);
+        let state = &mut self.state;
+        Ok(begin(context.alloc, state, at, &opening, name, source)?)
     }
 }

@@ -2,8 +2,9 @@
 //!
 //! Each of them is replaced by a number, from the left, before the condition is evaluated: `defined` and the macros outside
 //! its operand are replaced later. Macros are replaced in an operand that doesn't begin with `<`.
-ghost use Rattle.std.specs.Prelude.{◌≡◌, ◌<◌, ◌^◌, ◌&&◌, drop, length, codes, IfOk, IfSome};
+ghost use Rattle.std.specs.Prelude.{◌≡◌, ◌<◌, ◌^◌, ◌&&◌, ◌||◌, drop, length, codes, IfOk, IfSome};
 ghost use Rattle.std.specs.List.{list_any};
+ghost use Rattle.std.specs.Str.{bytes_eq};
 ghost use Rattle.pptext.specs.Errors.{UnlessOutOfMemory};
 ghost use Rattle.pptext.specs.Profiles.{is_gnu};
 ghost use Rattle.ppunit.specs.DirectiveLines.{operands};
@@ -26,11 +27,18 @@ fn is_has_include_next(token: &Token) -> bool
     token.is_identifier_named(b"__has_include_next")
 }
 
-/// Returns whether the token is the name of an operator: `__has_include` or `__has_include_next`.
+/// Returns whether the text is the name of an operator: `__has_include` or `__has_include_next`.
+fn is_operator_name(text: &[u8]) -> bool
+    ensures { result ≡ (bytes_eq text.now (codes "__has_include") || bytes_eq text.now (codes "__has_include_next")) }
+{
+    text == b"__has_include".as_slice() || text == b"__has_include_next".as_slice()
+}
+
+/// Returns whether the token is the name of an operator.
 fn is_operator(token: &Token) -> bool
     ensures { result ≡ spec.is_operator token.now }
 {
-    token.is_identifier_named(b"__has_include") || is_has_include_next(token)
+    token.is_identifier() && is_operator_name(token.text.as_bytes())
 }
 
 /// Returns whether a token is the name of an operator.

@@ -1,15 +1,15 @@
 //! The state of phase 4 in a unit.
-ghost use Rattle.std.specs.Prelude.{◌≡◌, ◌<◌, IfOk, OnOk, true, false, [], ◌∷◌, ◌++◌, ◌==◌, ◌||◌, None, length};
+ghost use Rattle.std.specs.Prelude.{◌≡◌, ◌<◌, ◌+◌, pos, ◌+ℤ◌, nat_abs, IfOk, OnOk, true, false, [], ◌∷◌, ◌++◌, ◌==◌, ◌||◌, None, length};
 ghost use Rattle.std.specs.List.{list_any};
 ghost use Rattle.ppmacro.specs.Substitution.{escaped_literal};
 ghost use Rattle.ppexpand.specs.Budget.{is_exhausted};
-ghost use Rattle.ppunit.specs.States.{file_context, in_file_context, emitted, with_dependency, with_once, with_macro_pushed, with_macro_popped, with_one_spent, with_waiting, literal};
+ghost use Rattle.ppunit.specs.States.{file_context, in_file_context, emitted, marked, resumed, running, with_system_row, with_dependency, with_once, with_macro_pushed, with_macro_popped, with_one_spent, with_waiting, literal};
 ghost use Rattle.ppmacro.specs.Predefined.{initial_macros};
 ghost use Rattle.ppunit.specs.Unit.{initial_state, state_before};
 ghost use Rattle.ppunit.specs.declared.units.Item.TheVariants as item;
 
 use crate::collections::{Items, Rows};
-use crate::units::Setting;
+use crate::units::{Mark, MarkSort, Setting};
 use ppexpand::{Env, Meter, Scratch, TokenList, WaitingTokens};
 use ppmacro::{PushedMacros, Table, push_escaped};
 use pptext::{Hashing, Memory, Place, Profile, Spelling, Token};
@@ -17,18 +17,27 @@ use std::alloc::Global;
 use std::marker::Model;
 use std::mem::replace;
 
-/// The context of a file: the values of the predefined names in it, and the number of the directory in which it was
-/// found. The main file has no such number.
+/// The context of a file: the values of the predefined names in it, the number of the directory in which it was found (the
+/// main file has no such number), its shown name, and whether it is a system header.
 #[derive(Drop)]
 pub(crate) struct FileContext {
     pub env: Env,
     pub directory: Option<usize>,
+    pub shown: Spelling,
+    pub system: bool,
+}
+
+/// Where a file goes on after another: its index in the file table, and the number of the physical line before the next one.
+#[derive(Clone, Copy)]
+pub(crate) struct Resumption {
+    pub row: usize,
+    pub last: u32,
 }
 
 /// The state of phase 4: the macros, the items that were emitted, the indices of the opened files in the order of their
 /// first opening, those of them that are marked by `#pragma once`, the macros that `#pragma push_macro` keeps, the meter of
-/// the unit, the context of the file that is being processed, and the tokens of the invocation that waits for its `)`. Its
-/// model leaves out what expansions reuse, which affects no result.
+/// the unit, the context of the file that is being processed, the indices of the files that were system headers, and the
+/// tokens of the invocation that waits for its `)`. Its model leaves out what expansions reuse, which affects no result.
 #[derive(Drop)]
 pub(crate) struct State<'x> {
     pub macros: Table<'x>,
@@ -40,6 +49,7 @@ pub(crate) struct State<'x> {
     pub pushed: PushedMacros<'x>,
     pub meter: Meter,
     pub file_context: FileContext,
+    pub system_rows: Rows,
     /// The tokens of a macro invocation without its `)`, between whose arguments there are directives.
     pub waiting: WaitingTokens<'x>,
     pub scratch: Scratch<'x>,
@@ -70,6 +80,9 @@ impl<'x> Model for State<'x> {
       meter = s.meter;
       env = s.file_context.env;
       directory = s.file_context.directory;
+      shown = s.file_context.shown;
+      system = s.file_context.system;
+      system_rows = s.system_rows;
       waiting = s.waiting;
     } };
 }
@@ -98,7 +111,7 @@ impl<'x> State<'x> {
         scratch: Scratch<'x>,
         keeps: bool,
     ) -> State<'x>
-        ensures { result ≡ record { macros = macros.entry.macros; keeps = keeps; items = []; deps = []; once = []; pushed = []; meter = meter; env = env; directory = None; waiting = [] } }
+        ensures { result ≡ record { macros = macros.entry.macros; keeps = keeps; items = []; deps = []; once = []; pushed = []; meter = meter; env = env; directory = None; shown = []; system = false; system_rows = []; waiting = [] } }
     {
         let mut scratch = scratch;
         let alloc = scratch.alloc();
@@ -114,7 +127,10 @@ impl<'x> State<'x> {
             file_context: FileContext {
                 env,
                 directory: None,
+                shown: Spelling::empty(),
+                system: false,
             },
+            system_rows: Rows::new(alloc),
             waiting,
             scratch,
         }
@@ -133,6 +149,53 @@ impl<'x> State<'x> {
         ensures { self.new ≡ in_file_context outer self.old }
     {
         self.file_context = outer;
+    }
+
+    /// Gives the current file, from its first line on, the presumed name that this literal spells.
+    pub(crate) fn set_name(&mut self, literal: Spelling)
+        ensures { self.new ≡ record self.old { env = record self.old.env { name = literal; shift = pos 0 } } }
+    {
+        self.file_context.env.name = literal;
+        self.file_context.env.shift = 0;
+    }
+
+    /// Notes that the file at index `row` is a system header from here on, if it is one.
+    pub(crate) fn note_system(&mut self, is_system: bool, row: usize) -> Result<(), Memory>
+        ensures { OnOk result (self.new ≡ with_system_row is_system self.old row) }
+    {
+        if !is_system {
+            return Ok(());
+        }
+        self.system_rows.join(row)
+    }
+
+    /// Emits a mark of the line after the physical line `last` of the file at index `row`.
+    pub(crate) fn emit_mark(&mut self, sort: MarkSort, row: usize, last: u32) -> Result<(), Memory>
+        ensures { OnOk result (self.new ≡ marked self.old sort row last) }
+    {
+        if !self.keeps {
+            return Ok(());
+        }
+        let name = self.file_context.env.name.clone()?;
+        let mark = Mark {
+            sort,
+            row,
+            physical: last as usize + 1,
+            line: presumed_number(&self.file_context.env, last),
+            name,
+            system: self.system_rows.contains(row),
+        };
+        self.items.push_mark(mark)
+    }
+
+    /// Emits the mark at which an including file goes on, if there is one.
+    pub(crate) fn resume(&mut self, resumption: Option<Resumption>) -> Result<(), Memory>
+        ensures { OnOk result (running self.new ≡ resumed resumption (running self.old)) }
+    {
+        let Some(resumption) = resumption else {
+            return Ok(());
+        };
+        self.emit_mark(MarkSort::Leave, resumption.row, resumption.last)
     }
 
     /// Returns whether an invocation waits for its `)`.
@@ -247,6 +310,14 @@ fn initial_env(alloc: Global, setting: &Setting) -> Result<Env, Memory>
     })
 }
 
+/// Returns the presumed number of the line after the physical line `last`.
+fn presumed_number(env: &Env, last: u32) -> usize
+    ensures { result ≡ nat_abs (pos (last + 1) +ℤ env.now.shift) }
+{
+    let line = i128::from(last) + 1 + i128::from(env.shift);
+    line.unsigned_abs() as usize
+}
+
 /// Copies a text into a spelling.
 fn to_spelling(alloc: Global, text: &str) -> Result<Spelling, Memory>
     ensures { IfOk result (λ s. s ≡ text.now) }
@@ -272,12 +343,12 @@ fn push_name(text: &mut Vec<u8>, name: &[u8]) -> Result<(), Memory>
 }
 
 /// Returns a name as a string literal: between `"`, with `\` before each `"` and `\`.
-pub(crate) fn literal(alloc: Global, name: &str) -> Result<Spelling, Memory>
+pub(crate) fn literal(alloc: Global, name: &[u8]) -> Result<Spelling, Memory>
     ensures { IfOk result (λ s. s ≡ literal name.now) }
 {
     let mut text = Vec::with_capacity(alloc, name.len() + 2)?;
     text.push(b'"')?;
-    push_name(&mut text, name.as_bytes())?;
+    push_name(&mut text, name)?;
     text.push(b'"')?;
     Spelling::new(text)
 }

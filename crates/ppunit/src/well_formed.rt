@@ -1,11 +1,11 @@
 //! Syntax of the texts of a setting and of a unit.
-ghost use Rattle.std.specs.Prelude.{◌≡◌, length, nat_le};
+ghost use Rattle.std.specs.Prelude.{◌≡◌, length, nat_le, nat_lt};
 ghost use Rattle.std.specs.List.{list_all};
 ghost use Rattle.ppshelf.specs.Content.{longest};
 ghost use Rattle.ppunit.specs.WellFormed as spec;
 ghost use Rattle.ppunit.specs.Unit.{command_text};
 
-use crate::units::{Setting, Unit};
+use crate::units::{FirstFile, Setting, Unit};
 use ppshelf::{Disk, LONGEST, Shelf};
 use pptext::{OwnedText, Profile};
 
@@ -149,13 +149,21 @@ fn are_lines(texts: &[OwnedText]) -> bool
     true
 }
 
-/// Returns whether the unit's file is in the file table, the definitions have the table's profile, each of them is one
+/// Returns whether the files that are read first are among this number of files.
+fn are_rows(rows: usize, files: &[FirstFile]) -> bool
+    ensures { result ≡ list_all (λ f. nat_lt f.file rows) files.now }
+{
+    files.iter().all(|file| file.file < rows)
+}
+
+/// Returns whether the unit's file and those that are read first are in the file table, the definitions have the table's profile, each of them is one
 /// line, and the file that holds them has at most `LONGEST` bytes.
 pub fn unit_ok<D: Disk>(shelf: &Shelf<D>, unit: &Unit) -> bool
     ensures { result ≡ spec.is_unit (length shelf.now.names) shelf.now.profile unit.now }
 {
     let defines = unit.defines.texts().as_slice();
     unit.file < shelf.len()
+        && are_rows(shelf.len(), unit.first.as_slice())
         && equal_profiles(unit.defines.profile(), shelf.profile())
         && are_lines(defines)
         && fits_command(defines)

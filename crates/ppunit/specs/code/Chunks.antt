@@ -11,3 +11,4 @@ chunk_items (chunk.InFile ts) = map item.Token ts.now
 chunk_items (chunk.Singles hs) = map item.Token (tokens_of hs.items)
 chunk_items (chunk.Pragma at ts) = item.Pragma at ts.now ∷ []
 chunk_items (chunk.Expanded at ts) = item.Pragma at ts.items ∷ []
+chunk_items (chunk.Mark m) = item.Mark m ∷ []

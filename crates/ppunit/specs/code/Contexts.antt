@@ -1,13 +1,14 @@
 -- The context of a unit as the code has it. Only contracts of private functions and models of private types cite this.
 use Rattle.std.specs.Prelude.{List, ℕ}
 use Rattle.ppshelf.specs.Files.{Files, ShelfView}
-use Rattle.ppunit.specs.States.{Context, Search}
+use Rattle.ppunit.specs.States.{Context, Search, Showing}
 
--- a unit's file table, and the directories that are searched, the unit's before the setting's
+-- a unit's file table, the directories that are searched, the unit's before the setting's, and how files are shown
 pub record UnitContext : Type 0 where
   pub shelf : ShelfView
   pub unit_directories : List (List ℕ)
   pub setting_directories : List (List ℕ)
+  pub showing : Showing
 
 -- the search of a unit
 abbrev pub search_in_unit : UnitContext → Search
@@ -28,4 +29,5 @@ context_over unit_context files =
       files = files;
       unit_directories = unit_context.unit_directories;
       setting_directories = unit_context.setting_directories;
+      showing = unit_context.showing;
     }

@@ -1,5 +1,5 @@
 -- The steps of opening a file (6.10.2). Only contracts of private functions and models of private types cite this.
-use Rattle.std.specs.Prelude.{◌≡◌, ℕ, ◌<◌, ◌≤◌, ◌^◌, pos, List, [], true, false, Option, None, Some, Ok, Err, ◌⊎◌, length}
+use Rattle.std.specs.Prelude.{◌≡◌, ℕ, ◌<◌, ◌≤◌, ◌^◌, List, [], Bool, true, false, Option, None, Some, Ok, Err, ◌⊎◌, length}
 use Rattle.pptext.specs.declared.tokens.Place.{Place}
 use Rattle.pptext.specs.declared.tokens.Fault.{Fault}
 use Rattle.pptext.specs.Lines.{LogicalLine}
@@ -8,8 +8,10 @@ use Rattle.ppexpand.specs.Budget.{is_exhausted}
 use Rattle.ppshelf.specs.Content.{Content, unreadable, IsRead}
 use Rattle.ppshelf.specs.Files.{Files, ShelfView, file_at}
 use Rattle.ppshelf.specs.Names.{name_in}
+use Rattle.ppunit.specs.ShownNames.{shown_or_own}
 use Rattle.ppunit.specs.declared.states.FileContext.{FileContext}
-use Rattle.ppunit.specs.States.{State, file_context, with_one_spent, literal}
+use Rattle.ppunit.specs.declared.states.Resumption.{Resumption}
+use Rattle.ppunit.specs.States.{State, Opening, file_context, with_one_spent, begun, leaving, running}
 use Rattle.ppunit.specs.Group.{depth_limit}
 use Rattle.ppunit.specs.States.{is_macro_name}
 use Rattle.pptext.specs.Guard.{GuardedBy}
@@ -20,10 +22,28 @@ pub record OpenFile : Type 0 where
   pub lines : List LogicalLine
   pub index : ℕ
 
--- a file that was just opened, and the context of the file that includes it
+-- a file that was just opened, the context of the file that includes it, and where that goes on
 pub record Entered : Type 0 where
   pub file : OpenFile
   pub outer : FileContext
+  pub resumption : Option Resumption
+
+-- a file that is to be opened: its index, the number of the directory in which it was found, its shown name unless that is its
+-- name, whether it is a system header, and where the including file goes on after it
+pub record ToOpen : Type 0 where
+  pub row : ℕ
+  pub directory : Option ℕ
+  pub shown : Option (List ℕ)
+  pub system : Bool
+  pub resumption : Option Resumption
+
+-- how it is opened under this shown name
+abbrev pub shown_as : List ℕ → ToOpen → Opening
+shown_as shown f = record { directory = f.directory; shown = shown; system = f.system; resumption = f.resumption }
+
+-- how it is opened
+abbrev pub opening_in : List (List ℕ) → ToOpen → Opening
+opening_in names f = shown_as (shown_or_own names f.row f.shown) f
 
 -- why a file of this name isn't opened: it is too deep, or else the budget is exhausted
 abbrev pub IsRefusedOpening : ℕ → Place → List ℕ → State → Fault → Type 0
@@ -49,10 +69,9 @@ HasFault shelf files row at f =
 abbrev pub IsLeftOut : State → List LogicalLine → Type 0
 IsLeftOut s lines = (x : List ℕ) × GuardedBy lines x × (is_macro_name s.macros x ≡ true)
 
--- A file of this name and these lines is skipped, which changes nothing, where no invocation waits; or it is entered, and the
--- predefined names and the directory number are its own.
-abbrev pub Begins : List ℕ → ℕ → Option ℕ → List LogicalLine → State → State → Option Entered → Type 0
-Begins name row directory lines s t None = (s.waiting ≡ []) × IsLeftOut s lines × (t ≡ s)
-Begins name row directory lines s t (Some e) =
-    (e ≡ record { file = record { row = row; lines = lines; index = 0 }; outer = file_context s }) × (length lines < 2 ^ 64)
-    × (t ≡ record s { env = record s.env { name = literal name; shift = pos 0 }; directory = directory })
+-- A file of these lines is entered and left at once where no invocation waits; or it is entered, and its first line is next.
+abbrev pub Begins : Place → ℕ → Opening → List LogicalLine → State → State → Option Entered → Type 0
+Begins at row how lines s t None = (s.waiting ≡ []) × IsLeftOut s lines × (running t ≡ leaving s how (running (begun at s row how)))
+Begins at row how lines s t (Some e) =
+    (e ≡ record { file = record { row = row; lines = lines; index = 0 }; outer = file_context s; resumption = how.resumption }) × (length lines < 2 ^ 64)
+    × (t ≡ begun at s row how)

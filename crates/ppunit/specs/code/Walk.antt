@@ -12,7 +12,8 @@ use Rattle.pptext.specs.Classes.{begins_elif_group}
 use Rattle.ppexpand.specs.declared.meter.Meter.{Meter}
 use Rattle.ppshelf.specs.Files.{Files, Extends}
 use Rattle.ppunit.specs.declared.states.FileContext.{FileContext}
-use Rattle.ppunit.specs.States.{Search, State, in_file_context, Context, search_of, Progress, running, stopped}
+use Rattle.ppunit.specs.declared.states.Resumption.{Resumption}
+use Rattle.ppunit.specs.States.{Search, State, in_file_context, resumed, Context, search_of, Progress, running, stopped}
 use Rattle.ppunit.specs.Conditions.{DecidesFreely, Decides}
 use Rattle.ppunit.specs.Directives.{at_end}
 use Rattle.ppunit.specs.Group.{depth_limit, ExecutesGroup, ExecutesBranches, ExecutesControlLine}
@@ -62,12 +63,12 @@ Advances context files depth row lines index s t (Err f) =
     → Extends more files
     → Ends (context more) depth row (running s) ps k (stopped t f)
 
--- the context of the including file is restored
-abbrev pub restored : FileContext → Progress → Progress
-restored outer m = record m { state = in_file_context outer m.state }
+-- the context of the including file is restored, and that goes on
+abbrev pub restored : FileContext → Option Resumption → Progress → Progress
+restored outer resumption m = resumed resumption (record m { state = in_file_context outer m.state })
 
 -- A file was entered and its first line is next: what its lines reach from this state, up to the file's end and with the context
--- of the including file restored, is what the include line reaches.
+-- of the including file restored, which goes on, is what the include line reaches.
 pub record EntersFile (context : Files → Context) (files : Files) (depth : ℕ) (whole : Files → Progress → Type 0) (t : State) (e : Entered)
     : Type 0 where
   pub fits : depth ≤ depth_limit
@@ -79,7 +80,7 @@ pub record EntersFile (context : Files → Context) (files : Files) (depth : ℕ
       → Extends more files
       → (m : Progress)
       → ExecutesGroup (context more) depth e.file.row (running t) parts m
-      → whole more (restored e.outer (at_end m))
+      → whole more (restored e.outer e.resumption (at_end m))
 
 -- the goal is reached, with or without a fault, or a file was entered whose lines lead to it
 abbrev pub Leads : (Files → Context) → Files → ℕ → (Files → Progress → Type 0) → State → Result (Option Entered) Fault → Type 0
@@ -115,10 +116,11 @@ abbrev pub Steps : (Files → Context) → Files → ℕ → ℕ → List Logica
 Steps context files depth row lines index s t (Ok (next, entered)) = StepsTo context files depth row lines index s t next entered
 Steps context files depth row lines index s t (Err f) = Advances context files depth row lines index s t (Err f)
 
--- a suspended file and its context
+-- a suspended file, its context, and where it goes on
 pub record SuspendedFile : Type 0 where
   pub file : OpenFile
   pub file_context : FileContext
+  pub resumption : Option Resumption
 
 -- the file whose lines are next: the one that was entered, which suspends this one, or else this one
 abbrev pub next_file : OpenFile → Option Entered → OpenFile
@@ -127,7 +129,7 @@ next_file file (Some e) = e.file
 
 abbrev pub next_suspended : OpenFile → Option Entered → List SuspendedFile → List SuspendedFile
 next_suspended file None ws = ws
-next_suspended file (Some e) ws = record { file = file; file_context = e.outer } ∷ ws
+next_suspended file (Some e) ws = record { file = file; file_context = e.outer; resumption = e.resumption } ∷ ws
 
 -- the contexts of suspended files are restored, one after the other
 abbrev pub contexts_restored : List SuspendedFile → State → State

@@ -4,7 +4,7 @@ use Rattle.ppunit.specs.States.{State}
 use Rattle.ppunit.specs.code.Contexts.{search_in_unit}
 use Rattle.ppunit.specs.code.Walk.{FindsBranch}
 use Rattle.ppunit.proofs.SectionWalks.{next_inside, EntersAt, BranchSoFar, branch_more, branch_taken, branch_refused, branch_found}
-use Rattle.ppunit.proofs.OptionCases.{none_of}
+use Rattle.ppunit.proofs.LineDecisions.{none_of}
 use Rattle.ppunit.proofs.line_walk.find_branch.Goals as goal
 
 pub takes_branch-requires-clause-index : goal.takes_branch-requires-clause-index

@@ -1,6 +1,6 @@
 use Rattle.std.proofs.Common.{◌∙◌, sym, arith}
 use Rattle.ppunit.proofs.SectionWalks.{section_more, section_done, next_inside}
-use Rattle.ppunit.proofs.OptionCases.{none_of}
+use Rattle.ppunit.proofs.LineDecisions.{none_of}
 use Rattle.ppunit.proofs.line_walk.section_end.Goals as goal
 
 pub loop-next-smaller : goal.loop-next-smaller

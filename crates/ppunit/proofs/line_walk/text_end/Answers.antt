@@ -2,7 +2,7 @@ use Rattle.std.proofs.Common.{◌∙◌, sym, arith}
 use Rattle.ppunit.specs.code.Walk.{line_at, IsTextLine}
 use Rattle.ppunit.proofs.TextRuns.{run_start, run_more, run_done}
 use Rattle.ppexpand.proofs.SkippedTokens.{none_by}
-use Rattle.ppunit.proofs.OptionCases.{some_not}
+use Rattle.ppunit.proofs.LineDecisions.{some_not}
 use Rattle.ppunit.proofs.line_walk.text_end.Goals as goal
 
 pub loop-end-init : goal.loop-end-init

@@ -1,7 +1,7 @@
 use Rattle.std.proofs.Common.{◌∙◌, ◌++◌, refl, subst}
 use Rattle.ppexpand.specs.Expansion.{Expansion, IsExpansion}
 use Rattle.ppunit.specs.States.{State}
-use Rattle.ppunit.proofs.OptionCases.{none_of}
+use Rattle.ppunit.proofs.LineDecisions.{none_of}
 use Rattle.ppunit.proofs.operand_expansion.expand_operands.Goals as goal
 
 pub returns-in-Some-clause-replaces : goal.returns-in-Some-clause-replaces

@@ -12,12 +12,12 @@ pub returns-clause-is : goal.returns-clause-is
 returns-clause-is g c =
     let unit = c.args.unit.now in
     let Of : UnitContext → Progress → Type 0 = λ l r.
-    Translates (context_over l c.run_unit-output.new.pass.files) unit.defines.texts unit.file (initial_state c.args.setting.now) r in
+    Translates (context_over l c.run_unit-output.new.pass.files) unit (initial_state c.args.setting.now) r in
     IfOk-weaker c.run_unit-output.result (λ out. (r : Progress) × Of c.new-context.result r × (out ≡ output r))
     (IsUnit c.args.shelf.now.names c.run_unit-output.new.pass.files c.args.setting.now unit)
     (λ out gives.
-    whole_unit c.args.shelf.now.names c.args.shelf.now.profile c.run_unit-output.new.pass.files c.args.setting.now unit _ _ gives.0 out
-    c.requires.profile c.as_slice.ensures c.as_slice-2.ensures (subst (λ l. Of l gives.0) c.new-context.ensures gives.1) gives.2)
+    whole_unit c.args.shelf.now.names c.args.shelf.now.profile c.run_unit-output.new.pass.files c.args.setting.now unit _ _ _ gives.0 out
+    c.requires.profile c.as_slice.ensures c.as_slice-2.ensures c.of-showing.ensures (subst (λ l. Of l gives.0) c.new-context.ensures gives.1) gives.2)
     c.run_unit-output.ensures.value
 
 pub returns-clause-deps : goal.returns-clause-deps

@@ -14,7 +14,7 @@ returns-clause-grows g c = subst (λ (z : Files). Extends z c.args.pass.now.file
 pub returns-clause-value : goal.returns-clause-value
 returns-clause-value g c =
     let unit = c.args.unit.now in
-    let From : Files → State → Progress → Type 0 = λ z s r. Translates (context_over c.args.context.now z) unit.defines.texts unit.file s r in
+    let From : Files → State → Progress → Type 0 = λ z s r. Translates (context_over c.args.context.now z) unit s r in
     let files = c.first_fault-outcome.new.self.pass.now.files in
     let Ended : Result (Option Fault) Memory → Type 0 = λ e.
     IfOk e (λ fault. From files c.in_ok-state.state (record { state = c.first_fault-outcome.new.self.state; fault = fault })) in

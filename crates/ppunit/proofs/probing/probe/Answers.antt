@@ -5,7 +5,7 @@ use Rattle.ppunit.specs.States.{State}
 use Rattle.ppunit.specs.DirectiveLines.{operands}
 use Rattle.ppunit.specs.Probing.{Probes, number_for, has_file, directory_before}
 use Rattle.ppunit.specs.code.Contexts.{search_in_unit}
-use Rattle.ppunit.proofs.OptionCases.{none_of}
+use Rattle.ppunit.proofs.LineDecisions.{none_of}
 use Rattle.ppunit.proofs.HasIncludeNumbers.{same_token, rest_behind, fewer_behind, after_other, after_operator, at_end, at_open, at_fault}
 use Rattle.ppunit.proofs.probing.probe.Goals as goal
 

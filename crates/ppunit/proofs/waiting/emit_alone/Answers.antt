@@ -38,6 +38,9 @@ returns-in_default c =
       meter = inside.meter;
       env = inside.file_context.env;
       directory = inside.file_context.directory;
+      shown = inside.file_context.shown;
+      system = inside.file_context.system;
+      system_rows = inside.system_rows;
       waiting = inside.waiting;
     } in
     let after : State = record before { items = c.extend_if.new.self; meter = x.meter } in
@@ -65,6 +68,9 @@ returns c =
       meter = inside.meter;
       env = inside.file_context.env;
       directory = inside.file_context.directory;
+      shown = inside.file_context.shown;
+      system = inside.file_context.system;
+      system_rows = inside.system_rows;
       waiting = inside.waiting;
     } in
     let after : State = record before { items = c.extend_if-2.new.self; meter = x.meter } in

@@ -30,6 +30,9 @@ returns-then-branch c =
       meter = inside.meter;
       env = inside.file_context.env;
       directory = inside.file_context.directory;
+      shown = inside.file_context.shown;
+      system = inside.file_context.system;
+      system_rows = inside.system_rows;
       waiting = inside.waiting;
     } in
     let now : Bool = begins_open before.macros (map unhidden before.waiting) in

@@ -1,6 +1,6 @@
 use Rattle.std.specs.Result.{result_err}
 use Rattle.ppunit.proofs.UnitValue.{on_settled}
-use Rattle.ppunit.proofs.EmittedText.{emits_open, nothing_left, open_at_faults}
+use Rattle.ppunit.proofs.EmittedText.{emits_open}
 use Rattle.ppunit.proofs.waiting.emit_open.Goals as goal
 
 pub returns : goal.returns

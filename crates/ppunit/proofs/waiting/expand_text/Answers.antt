@@ -19,6 +19,9 @@ returns c =
       meter = inside.meter;
       env = inside.file_context.env;
       directory = inside.file_context.directory;
+      shown = inside.file_context.shown;
+      system = inside.file_context.system;
+      system_rows = inside.system_rows;
       waiting = inside.waiting;
     } in
     let x : Expansion = record { tokens = c.expand_open.new.scratch; fault = c.in_ok-expanded.expanded.fault; meter = c.expand_open.new.meter } in

@@ -36,7 +36,7 @@ returns-in_ok-refuse_line-in-Includes-clause-control g c =
     on_settled c.include.result
     (λ r leads. leads_include (context_over c.args.self.now.context.now) c.include.new.self.pass.now.files c.args.depth c.args.line.row c.in-Includes.include_next c.previous_directory-directory.result
     (directed c.args.line.directive c.args.line.tokens c.args.line.number) c.args.self.now.state c.include.new.self.state r
-    c.previous_directory-directory.ensures (ap (λ (z : Class). Some z) is) free.0 free.1 (leads c.args.line.directive c.args.line.number))
+    c.previous_directory-directory.ensures (ap (λ (z : Class). Some z) is) free.0 free.1 leads)
     c.include.ensures.includes
 
 pub returns-in_err-refuse_line-in_default : goal.returns-in_err-refuse_line-in_default

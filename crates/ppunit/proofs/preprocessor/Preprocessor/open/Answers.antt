@@ -1,37 +1,57 @@
-use Rattle.std.proofs.Common.{ap, ◌∙◌}
+use Rattle.std.proofs.Common.{◌≡◌, ℕ, List, Some, subst}
 use Rattle.pptext.proofs.ErrorReturns.{stopped}
-use Rattle.ppshelf.specs.Files.{ShelfView}
 use Rattle.ppshelf.specs.Names.{name_in}
+use Rattle.ppunit.specs.Dependencies.{has_row}
+use Rattle.ppunit.specs.States.{with_dependency}
 use Rattle.ppunit.specs.code.Contexts.{context_over}
+use Rattle.ppunit.specs.code.Opening.{ToOpen, SpendsOpening, HasLines, HasFault, Begins, opening_in, shown_as}
 use Rattle.ppunit.proofs.FileOpening.{opens_unpaid, opens_known, ready, opens_faulty, opens_begun}
 use Rattle.ppunit.proofs.preprocessor.Preprocessor.open.Goals as goal
 
 pub returns-in_err-spend_opening-clause-opened : goal.returns-in_err-spend_opening-clause-opened
 returns-in_err-spend_opening-clause-opened g c =
+    let names = c.args.self.now.context.now.shelf.names in
     stopped _ _ _ _ c.from_residual.ensures.1 c.in_err-spend_opening.ensures
-    (λ fault unpaid more grows. opens_unpaid (context_over c.args.self.now.context.now more) c.args.depth c.args.opening.row c.args.opening.directory c.args.at c.args.self.now.state
-    c.spend_opening.new.state fault unpaid)
+    (λ fault unpaid more grows. opens_unpaid (context_over c.args.self.now.context.now more) c.args.depth c.args.opening.row (opening_in names c.args.opening) c.args.at
+    c.args.self.now.state c.spend_opening.new.state fault
+    (subst (λ (z : ToOpen). SpendsOpening c.args.depth c.args.at (name_in names z.row) c.args.self.now.state c.spend_opening.new.state (Some fault)) c.opening.view_is unpaid))
 
 pub returns-then-branch-clause-opened : goal.returns-then-branch-clause-opened
 returns-then-branch-clause-opened g c more grows =
-    opens_known (context_over c.args.self.now.context.now more) c.args.depth c.args.opening.row c.args.opening.directory c.args.at (name_in c.args.self.now.context.now.shelf.names c.args.opening.row)
-    c.args.self.now.state c.spend_opening.new.state
-    c.record_dependency.new.state c.in_ok-record_dependency.field-0 c.in_ok-spend_opening.ensures c.in_ok-record_dependency.ensures.joins c.in_ok-record_dependency.ensures.is_once c.if-branch.true
+    let names = c.args.self.now.context.now.shelf.names in
+    let joins = subst (λ (z : ToOpen). c.record_dependency.new.state ≡ with_dependency c.spend_opening.new.state z.row) c.opening.view_is c.in_ok-record_dependency.ensures.joins in
+    let known = subst (λ (z : ToOpen). c.in_ok-record_dependency.field-0 ≡ has_row z.row c.spend_opening.new.state.once) c.opening.view_is
+    c.in_ok-record_dependency.ensures.is_once in
+    opens_known (context_over c.args.self.now.context.now more) c.args.depth c.args.opening.row (opening_in names c.args.opening) c.args.at
+    (name_in names c.args.opening.row) c.args.self.now.state c.spend_opening.new.state c.record_dependency.new.state
+    c.in_ok-record_dependency.field-0 c.in_ok-spend_opening.ensures joins known c.if-branch.true
 
 pub returns-in_err-source-clause-opened : goal.returns-in_err-source-clause-opened
 returns-in_err-source-clause-opened g c =
-    let noted = ready c.args.depth c.args.opening.row c.args.at (name_in c.args.self.now.context.now.shelf.names c.args.opening.row)
+    let names = c.args.self.now.context.now.shelf.names in
+    let joins = subst (λ (z : ToOpen). c.record_dependency.new.state ≡ with_dependency c.spend_opening.new.state z.row) c.opening.view_is c.in_ok-record_dependency.ensures.joins in
+    let known = subst (λ (z : ToOpen). c.in_ok-record_dependency.field-0 ≡ has_row z.row c.spend_opening.new.state.once) c.opening.view_is
+    c.in_ok-record_dependency.ensures.is_once in
+    let noted = ready c.args.depth c.args.opening.row c.args.at (name_in names c.args.opening.row)
     c.args.self.now.state c.spend_opening.new.state c.record_dependency.new.state c.in_ok-record_dependency.field-0
-    c.in_ok-spend_opening.ensures c.in_ok-record_dependency.ensures.joins c.in_ok-record_dependency.ensures.is_once c.if-branch.false in
+    c.in_ok-spend_opening.ensures joins known c.if-branch.false in
     rw c.source_of.ensures.state (stopped _ _ _ _ c.from_residual-in_err-source.ensures.1 c.in_err-source.ensures.fault
-    (λ fault has more grows. opens_faulty c.args.self.now.context.now c.source_of.new.self.pass.now.files more c.args.depth c.args.opening.row c.args.opening.directory c.args.at
-    c.args.self.now.state c.record_dependency.new.state fault noted has grows))
+    (λ fault has more grows. opens_faulty c.args.self.now.context.now c.source_of.new.self.pass.now.files more c.args.depth c.args.opening.row (opening_in names c.args.opening) c.args.at
+    c.args.self.now.state c.record_dependency.new.state fault noted
+    (subst (λ (z : ToOpen). HasFault c.args.self.now.context.now.shelf c.source_of.new.self.pass.now.files z.row c.args.at fault) c.opening.view_is has) grows))
 
 pub returns-clause-opened : goal.returns-clause-opened
 returns-clause-opened g c =
-    let noted = ready c.args.depth c.args.opening.row c.args.at (name_in c.args.self.now.context.now.shelf.names c.args.opening.row)
+    let names = c.args.self.now.context.now.shelf.names in
+    let joins = subst (λ (z : ToOpen). c.record_dependency.new.state ≡ with_dependency c.spend_opening.new.state z.row) c.opening.view_is c.in_ok-record_dependency.ensures.joins in
+    let known = subst (λ (z : ToOpen). c.in_ok-record_dependency.field-0 ≡ has_row z.row c.spend_opening.new.state.once) c.opening.view_is
+    c.in_ok-record_dependency.ensures.is_once in
+    let noted = ready c.args.depth c.args.opening.row c.args.at (name_in names c.args.opening.row)
     c.args.self.now.state c.spend_opening.new.state c.record_dependency.new.state c.in_ok-record_dependency.field-0
-    c.in_ok-spend_opening.ensures c.in_ok-record_dependency.ensures.joins c.in_ok-record_dependency.ensures.is_once c.if-branch.false in
-    opens_begun c.args.self.now.context.now c.source_of.new.self.pass.now.files c.args.depth c.args.opening.row c.args.opening.directory c.args.at c.args.self.now.state c.record_dependency.new.state
-    c.begin.new.state c.name-name.result.now c.in_ok-source.source.now c.in_ok-begin.field-0 noted c.in_ok-source.ensures.lines
-    (c.name-name.ensures ∙ ap (λ (z : ShelfView). name_in z.names c.args.opening.row) c.shelf.ensures) (rw c.source_of.ensures.state at c.in_ok-begin.ensures)
+    c.in_ok-spend_opening.ensures joins known c.if-branch.false in
+    let lines = subst (λ (z : ToOpen). HasLines c.args.self.now.context.now.shelf c.source_of.new.self.pass.now.files z.row c.in_ok-source.source.now) c.opening.view_is
+    c.in_ok-source.ensures.lines in
+    let begins = subst (λ (z : List ℕ). Begins c.args.at c.args.opening.row (shown_as z c.args.opening) c.in_ok-source.source.now c.record_dependency.new.state c.begin.new.state
+    c.in_ok-begin.field-0) c.opened_name-name.ensures (rw c.source_of.ensures.state at c.in_ok-begin.ensures) in
+    opens_begun c.args.self.now.context.now c.source_of.new.self.pass.now.files c.args.depth c.args.opening.row (opening_in names c.args.opening)
+    c.args.at c.args.self.now.state c.record_dependency.new.state c.begin.new.state c.in_ok-source.source.now c.in_ok-begin.field-0 noted lines begins

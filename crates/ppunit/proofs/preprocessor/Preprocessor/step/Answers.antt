@@ -3,7 +3,7 @@ use Rattle.pptext.proofs.ErrorReturns.{stopped}
 use Rattle.ppunit.specs.code.Contexts.{context_over}
 use Rattle.ppunit.proofs.SectionWalks.{end_advances}
 use Rattle.ppunit.proofs.ControlLines.{steps_line, steps_control, stops_control}
-use Rattle.ppunit.proofs.OptionCases.{none_of}
+use Rattle.ppunit.proofs.LineDecisions.{none_of}
 use Rattle.ppunit.proofs.preprocessor.Preprocessor.step.Goals as goal
 
 pub returns-in_err-end-clause-step : goal.returns-in_err-end-clause-step
