@@ -51,6 +51,12 @@ const ABOUT_DUMP: &str =
 
 const ABOUT_DEPS: &str = "Print each unit's dependencies and its first fault";
 
+const ABOUT_TEXT: &str =
+    "Print each unit as text with line markers, which a compiler takes, its dependencies and its first fault";
+
+const ABOUT_FAULTS: &str =
+    "Print each unit's first fault, and the include lines that lead to the file in which it stops";
+
 const MORE: &str = "\
 The list is read from standard input: a JSON object with `date`, `time`, `files` and `units`. The output goes to standard output,
 when all units are done. docs/FORMAT.md of the sources has the format of both, docs/FAULTS.md explains the numbers of faults and
@@ -108,10 +114,11 @@ fn read_options(alloc: Global, matches: &ArgMatches<'_>) -> Result<Options, Allo
         Some(directory) => Some(String::from_str(alloc, directory)?),
         None => None,
     };
-    let mode = if matches.subcommand_name() == Some("deps") {
-        Mode::Deps
-    } else {
-        Mode::Dump
+    let mode = match matches.subcommand_name() {
+        Some("deps") => Mode::Deps,
+        Some("text") => Mode::Text,
+        Some("faults") => Mode::Faults,
+        _ => Mode::Dump,
     };
     let Some(workers) = Workers::new(number(matches, "workers", MAX_WORKERS)) else {
         unreachable!()
@@ -147,7 +154,9 @@ fn command<'a>(alloc: Global) -> Result<Command<'a>, AllocError> {
         .subcommand_required(true)
         .disable_help_subcommand(true)
         .subcommand(subcommand(alloc, "dump", ABOUT_DUMP))?
-        .subcommand(subcommand(alloc, "deps", ABOUT_DEPS))
+        .subcommand(subcommand(alloc, "deps", ABOUT_DEPS))?
+        .subcommand(subcommand(alloc, "faults", ABOUT_FAULTS))?
+        .subcommand(subcommand(alloc, "text", ABOUT_TEXT))
 }
 
 /// Builds the option `--workers`.

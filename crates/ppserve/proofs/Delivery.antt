@@ -1,14 +1,14 @@
 -- What a run delivers, from its printing to the streams of `serve`.
-use Rattle.std.proofs.Common.{◌≡◌, ℕ, Bool, true, false, List, [], Option, Result, Ok, Err, IfOk, refl, inl, inr}
+use Rattle.std.proofs.Common.{◌≡◌, ℕ, Bool, true, List, [], Option, Result, Err, IfOk, refl, inr}
 use Rattle.ppshelf.specs.Files.{Files}
 use Rattle.pppool.proofs.SlotFilling.{if_ok_then}
 use Rattle.ppserve.specs.CompilationList.{CompilationList}
 use Rattle.ppserve.specs.declared.output.Mode.{Mode}
 use Rattle.ppserve.specs.declared.serving.RunFault.{RunFault}
-use Rattle.ppserve.specs.declared.serving.RunFault.TheVariants.{Memory as OutOfMemory, Write as WriteFailed}
+use Rattle.ppserve.specs.declared.serving.RunFault.TheVariants.{Write as WriteFailed}
 use Rattle.ppserve.specs.Serving.{Stream, ReadsList, IsOutput, Serves}
 use Rattle.ppserve.specs.code.Printing.{Puts}
-use Rattle.ppserve.specs.code.Runs.{Delivers, WritesSome}
+use Rattle.ppserve.specs.code.Runs.{Delivers}
 use Rattle.ppserve.proofs.BufferedPrinting.{printed_front}
 
 module _ {V : Type 0} {written : V → Option (List ℕ)} {has_failed : V → Bool} {old new : V} {result : Result Bool RunFault} where

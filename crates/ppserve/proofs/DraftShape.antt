@@ -1,16 +1,17 @@
 -- `draft` returns `x` for a JSON value exactly if the value has the shape of a list with draft `x`.
 use Rattle.std.proofs.Common.{◌≡◌, ◌↔◌, ℕ, Bool, true, false, List, [], ◌∷◌, Option, Some, None, option_map}
-use Rattle.std.proofs.Common.{option_and_then, codes, if◌then◌else◌, refl, ap, ◌∙◌, subst}
+use Rattle.std.proofs.Common.{option_and_then, codes, if◌then◌else◌, refl, sym, ap, ◌∙◌, subst}
 use Rattle.std.proofs.lemmas.Option.{option_and_then_some, same_Some, none-some}
 use Rattle.serde_json.specs.Data.{Num, Data, null, boolean, number, string, array, object, Items, no_items, item}
-use Rattle.serde_json.specs.Find.{get, as_number, as_str, as_array, as_u64}
-use Rattle.ppserve.specs.Shape.{is_object_of, file_members, unit_members, list_members, hex_bytes}
-use Rattle.ppserve.specs.Drafting.{text_at, text_or, each_item, each_of, array_at, texts_of, texts_at, content_from, content_of}
+use Rattle.serde_json.specs.Find.{get, as_bool, as_number, as_str, as_array, as_u64}
+use Rattle.ppserve.specs.Shape.{is_object_of, file_members, path_members, unit_members, list_members, hex_bytes}
+use Rattle.ppserve.specs.Drafting.{text_at, text_or, each_item, each_of, array_at, texts_of, texts_at, optional_text, optional_text_at, flag_of, flag_at, path_of_object, path_or, draft_path, paths_of, paths_at, content_from, content_of}
 use Rattle.ppserve.specs.Drafting.{draft_file, draft_unit, profile_at, budget_of_number, budget_from, budget_at, draft_setting, draft}
-use Rattle.ppserve.specs.Shape.{IsText, HasText, AreItems, nothing, more, HasItems, HasTexts, no_texts, some_texts}
+use Rattle.ppserve.specs.Shape.{IsText, HasText, AreItems, nothing, more, HasItems, HasTexts, no_texts, some_texts, MayHaveText, no_text, some_text}
+use Rattle.ppserve.specs.Shape.{HasFlag, no_flag, some_flag, IsPathDraft, only_name, whole_object, HasPaths, no_paths, some_paths}
 use Rattle.ppserve.specs.Shape.{HasContent, as_text, as_hex, left_out, HasProfile, no_profile, some_profile}
 use Rattle.ppserve.specs.Shape.{HasBudget, no_budget, whole_budget, other_budget, IsFileDraft, IsUnitDraft, IsSettingDraft, IsDraft}
-use Rattle.ppserve.specs.Drafts.{DraftFile, DraftUnit, DraftBudget, Missing, DraftSetting, Draft}
+use Rattle.ppserve.specs.Drafts.{DraftFile, DraftPath, DraftUnit, DraftBudget, Missing, DraftSetting, Draft}
 
 -- ---- one value
 
@@ -94,6 +95,38 @@ texts_back : {name : List ℕ} {d : Data} {ts : List (List ℕ)} → HasTexts d 
 texts_back (no_texts at) = ap texts_of at
 texts_back (some_texts h) = ap texts_of h.is_array ∙ items_back as_str IsText reads_text h.are
 
+is_boolean : (d : Data) (b : Bool) → as_bool d ≡ Some b → d ≡ boolean b
+is_boolean null b e = absurd (none-some b e)
+is_boolean (boolean c) b e = ap boolean (same_Some c b e)
+is_boolean (number n) b e = absurd (none-some b e)
+is_boolean (string s) b e = absurd (none-some b e)
+is_boolean (array ds) b e = absurd (none-some b e)
+is_boolean (object ms) b e = absurd (none-some b e)
+
+optional_from : (name : List ℕ) (d : Data) (t : Option (List ℕ)) → optional_text_at name d ≡ Some t → MayHaveText d name t
+optional_from name d t e = by (get name d) refl e
+  where
+    by : (o : Option Data) → get name d ≡ o → optional_text o ≡ Some t → MayHaveText d name t
+    by None at e = subst (MayHaveText d name) (same_Some None t e) (no_text at)
+    by (Some v) at e =
+        let m = mapped (λ (z : List ℕ). Some z) (as_str v) t e in
+        subst (MayHaveText d name) m.2 (some_text (at ∙ ap Some (is_string v m.0 m.1)))
+
+optional_back : {name : List ℕ} {d : Data} {t : Option (List ℕ)} → MayHaveText d name t → optional_text_at name d ≡ Some t
+optional_back (no_text at) = ap optional_text at
+optional_back (some_text at) = ap optional_text at
+
+flag_from : (name : List ℕ) (d : Data) (b : Bool) → flag_at name d ≡ Some b → HasFlag d name b
+flag_from name d b e = by (get name d) refl e
+  where
+    by : (o : Option Data) → get name d ≡ o → flag_of o ≡ Some b → HasFlag d name b
+    by None at e = subst (HasFlag d name) (same_Some false b e) (no_flag at)
+    by (Some v) at e = some_flag (at ∙ ap Some (is_boolean v b e))
+
+flag_back : {name : List ℕ} {d : Data} {b : Bool} → HasFlag d name b → flag_at name d ≡ Some b
+flag_back (no_flag at) = ap flag_of at
+flag_back (some_flag at) = ap flag_of at
+
 content_from_members : (inline : Bool) (d : Data) (c : List ℕ) → content_of inline d ≡ Some c → HasContent inline d c
 content_from_members false d c e = subst (HasContent false d) (same_Some [] c e) left_out
 content_from_members true d c e = by (get (codes "text") d) (get (codes "hex") d) refl refl e
@@ -162,21 +195,68 @@ file_back inline d f m = rw (m.object, text_back (codes "name") d f.name m.name,
 reads_files : (inline : Bool) → Reads (draft_file inline) (IsFileDraft inline)
 reads_files inline d f = (file_from inline d f, file_back inline d f)
 
+path_from_object : (d : Data) (p : DraftPath) → path_of_object d ≡ Some p → IsPathDraft d p
+path_from_object d p e =
+    let m = when (is_object_of path_members d) _ p e in
+    option_and_then_some _ (text_at (codes "name") d) p m.1 (λ name is_name e.
+    option_and_then_some _ (optional_text_at (codes "shown") d) p e (λ shown is_shown e.
+    option_and_then_some _ (flag_at (codes "system") d) p e (λ system is_system e.
+    subst (IsPathDraft d) (same_Some _ p e)
+    (whole_object m.0 (text_from (codes "name") d name is_name) (optional_from (codes "shown") d shown is_shown) (flag_from (codes "system") d system is_system)))))
+
+path_from : (d : Data) (p : DraftPath) → draft_path d ≡ Some p → IsPathDraft d p
+path_from d p e = by (as_str d) refl e
+  where
+    by : (o : Option (List ℕ)) → as_str d ≡ o → path_or (path_of_object d) o ≡ Some p → IsPathDraft d p
+    by None text e = path_from_object d p e
+    by (Some name) text e = subst (λ (z : Data). IsPathDraft z p) (sym (is_string d name text)) (subst (IsPathDraft (string name)) (same_Some _ p e) only_name)
+
+no_string : (d : Data) → is_object_of path_members d ≡ true → as_str d ≡ None
+no_string null h = absurd (cc)
+no_string (boolean b) h = absurd (cc)
+no_string (number n) h = absurd (cc)
+no_string (string s) h = absurd (cc)
+no_string (array ds) h = absurd (cc)
+no_string (object ms) h = refl
+
+path_back : (d : Data) (p : DraftPath) → IsPathDraft d p → draft_path d ≡ Some p
+path_back d p only_name = refl
+path_back d p (whole_object has_members name shown system) =
+    rw (no_string d has_members, has_members, text_back (codes "name") d p.name name, optional_back shown, flag_back system) refl
+
+reads_paths : Reads draft_path IsPathDraft
+reads_paths d p = (path_from d p, path_back d p)
+
+paths_from : (name : List ℕ) (d : Data) (ps : List DraftPath) → paths_at name d ≡ Some ps → HasPaths d name ps
+paths_from name d ps e = by (get name d) refl e
+  where
+    by : (o : Option Data) → get name d ≡ o → paths_of o ≡ Some ps → HasPaths d name ps
+    by None at e = subst (HasPaths d name) (same_Some [] ps e) (no_paths at)
+    by (Some v) at e = some_paths (array_from draft_path IsPathDraft reads_paths name d ps (ap (option_and_then (each_of draft_path)) at ∙ e))
+
+paths_back : {name : List ℕ} {d : Data} {ps : List DraftPath} → HasPaths d name ps → paths_at name d ≡ Some ps
+paths_back (no_paths at) = ap paths_of at
+paths_back (some_paths h) = ap paths_of h.is_array ∙ items_back draft_path IsPathDraft reads_paths h.are
+
 unit_from : (d : Data) (u : DraftUnit) → draft_unit d ≡ Some u → IsUnitDraft d u
 unit_from d u e =
     let m = when (is_object_of unit_members d) _ u e in
     option_and_then_some _ (text_at (codes "file") d) u m.1 (λ file is_file e.
+    option_and_then_some _ (optional_text_at (codes "shown") d) u e (λ shown is_shown e.
     option_and_then_some _ (texts_at (codes "define") d) u e (λ defines are_defines e.
-    option_and_then_some _ (texts_at (codes "search") d) u e (λ directories are_directories e.
+    option_and_then_some _ (paths_at (codes "first") d) u e (λ first are_first e.
+    option_and_then_some _ (paths_at (codes "search") d) u e (λ directories are_directories e.
     subst (IsUnitDraft d) (same_Some _ u e) (record {
       object = m.0;
       file = text_from (codes "file") d file is_file;
+      shown = optional_from (codes "shown") d shown is_shown;
       defines = texts_from (codes "define") d defines are_defines;
-      directories = texts_from (codes "search") d directories are_directories;
-    }))))
+      first = paths_from (codes "first") d first are_first;
+      directories = paths_from (codes "search") d directories are_directories;
+    }))))))
 
 unit_back : (d : Data) (u : DraftUnit) → IsUnitDraft d u → draft_unit d ≡ Some u
-unit_back d u m = rw (m.object, text_back (codes "file") d u.file m.file, texts_back m.defines, texts_back m.directories) refl
+unit_back d u m = rw (m.object, text_back (codes "file") d u.file m.file, optional_back m.shown, texts_back m.defines, paths_back m.first, paths_back m.directories) refl
 
 reads_units : Reads draft_unit IsUnitDraft
 reads_units d u = (unit_from d u, unit_back d u)
@@ -187,13 +267,13 @@ setting_from d s e =
     option_and_then_some _ (budget_at d) s e (λ draft_budget is_budget e.
     option_and_then_some _ (text_at (codes "date") d) s e (λ date is_date e.
     option_and_then_some _ (text_at (codes "time") d) s e (λ time is_time e.
-    option_and_then_some _ (texts_at (codes "search") d) s e (λ directories are_directories e.
+    option_and_then_some _ (paths_at (codes "search") d) s e (λ directories are_directories e.
     subst (IsSettingDraft d) (same_Some _ s e) (record {
       profile = profile_from d profile is_profile;
       budget = budget_from_member d draft_budget is_budget;
       date = text_from (codes "date") d date is_date;
       time = text_from (codes "time") d time is_time;
-      directories = texts_from (codes "search") d directories are_directories;
+      directories = paths_from (codes "search") d directories are_directories;
     }))))))
 
 setting_back : (d : Data) (s : DraftSetting) → IsSettingDraft d s → draft_setting d ≡ Some s
@@ -203,7 +283,7 @@ setting_back d s m =
       budget_back m.budget,
       text_back (codes "date") d s.date m.date,
       text_back (codes "time") d s.time m.time,
-      texts_back m.directories,
+      paths_back m.directories,
     ) refl
 
 draft_from : (inline : Bool) (d : Data) (x : Draft) → draft inline d ≡ Some x → IsDraft inline d x

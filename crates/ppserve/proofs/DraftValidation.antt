@@ -1,5 +1,5 @@
 -- Validation of a draft, and properties of an accepted list.
-use Rattle.std.proofs.Common.{◌≡◌, ℕ, ◌<◌, ◌≤◌, Bool, true, false, not, List, [], refl, sym, subst, ◌∙◌, arith, length, map, All, get_or, Option, Some, None, nat_le, nat_lt, if◌then◌else◌, unwrap_or}
+use Rattle.std.proofs.Common.{◌≡◌, ℕ, ◌<◌, ◌≤◌, Bool, true, false, not, ◌&&◌, List, [], ◌∷◌, refl, sym, subst, ◌∙◌, arith, length, map, All, get_or, Option, Some, None, nat_le, nat_lt, if◌then◌else◌, unwrap_or}
 use Rattle.std.specs.Option.{is_some}
 use Rattle.std.specs.List.{list_all}
 use Rattle.std.specs.Str.{bytes_eq}
@@ -21,9 +21,10 @@ use Rattle.ppshelf.specs.Files.{max_rows}
 use Rattle.ppshelf.specs.Names.{row_among}
 use Rattle.ppshelf.proofs.NameRows.{names_from_test}
 use Rattle.ppserve.specs.Listing.{accepted, refused, json_value, verdict_of, validated, listed, listed_unit, names_of, contents_of, names_hold, sizes_hold}
-use Rattle.ppserve.specs.Listing.{are_known, times_hold, lines_hold, directories_hold, profile_holds, profile_of, budget_holds, max_input, IsRunnable}
+use Rattle.ppserve.specs.Listing.{are_known, times_hold, lines_hold, directories_hold, profile_holds, profile_of, budget_holds, shown_hold, is_known, listed_first, max_input, IsRunnable}
 use Rattle.ppserve.specs.CompilationList.{CompilationList}
-use Rattle.ppserve.specs.Drafts.{Draft, DraftFile, DraftUnit}
+use Rattle.ppserve.specs.Drafts.{Draft, DraftFile, DraftPath, DraftUnit}
+use Rattle.ppunit.specs.declared.units.FirstFile.{FirstFile}
 
 pub fits_test : (most n : ℕ) → n ≤ most → nat_lt most n ≡ false
 fits_test most n h = grind (arith, nat_tests)
@@ -44,30 +45,31 @@ record Passed (x : CompilationList) (names sizes files times lines : Bool) (l : 
   pub times_pass : times ≡ true
   pub lines_pass : lines ≡ true
 
-passed : (x : CompilationList) (names sizes files times lines directories profile budget : Bool) (l : CompilationList)
+passed : (x : CompilationList) (names sizes files times lines directories profile budget shown : Bool) (l : CompilationList)
     → (if not names then refused 3
     else (if not sizes then refused 4
     else (if not files then refused 5
     else (if not times then refused 6
     else (if not lines then refused 7
-    else (if not directories then refused 8 else (if not profile then refused 9 else (if not budget then refused 10 else accepted x))))))))
+    else (if not directories then refused 8 else (if not profile then refused 9 else (if not budget then refused 10 else (if not shown then refused 11 else accepted x)))))))))
     ≡ accepted l
     → Passed x names sizes files times lines l
-passed x false sizes files times lines directories profile budget l e = absurd (cc)
-passed x true false files times lines directories profile budget l e = absurd (cc)
-passed x true true false times lines directories profile budget l e = absurd (cc)
-passed x true true true false lines directories profile budget l e = absurd (cc)
-passed x true true true true false directories profile budget l e = absurd (cc)
-passed x true true true true true false profile budget l e = absurd (cc)
-passed x true true true true true true false budget l e = absurd (cc)
-passed x true true true true true true true false l e = absurd (cc)
-passed x true true true true true true true true l e = record { is_list = cc; names_pass = refl; sizes_pass = refl; files_pass = refl; times_pass = refl; lines_pass = refl }
+passed x false sizes files times lines directories profile budget shown l e = absurd (cc)
+passed x true false files times lines directories profile budget shown l e = absurd (cc)
+passed x true true false times lines directories profile budget shown l e = absurd (cc)
+passed x true true true false lines directories profile budget shown l e = absurd (cc)
+passed x true true true true false directories profile budget shown l e = absurd (cc)
+passed x true true true true true false profile budget shown l e = absurd (cc)
+passed x true true true true true true false budget shown l e = absurd (cc)
+passed x true true true true true true true false shown l e = absurd (cc)
+passed x true true true true true true true true false l e = absurd (cc)
+passed x true true true true true true true true true l e = record { is_list = cc; names_pass = refl; sizes_pass = refl; files_pass = refl; times_pass = refl; lines_pass = refl }
 
 validated-passed : (inline : Bool) (d : Draft) (l : CompilationList) → validated inline d ≡ accepted l
     → Passed (listed inline d) (names_hold d.files) (sizes_hold d) (are_known (names_of d.files) d.units) (times_hold d.setting) (lines_hold d.units) l
 validated-passed inline d l e =
     let s = d.setting in
-    passed (listed inline d) (names_hold d.files) (sizes_hold d) (are_known (names_of d.files) d.units) (times_hold s) (lines_hold d.units) (directories_hold d) (profile_holds s) (budget_holds s) l e
+    passed (listed inline d) (names_hold d.files) (sizes_hold d) (are_known (names_of d.files) d.units) (times_hold s) (lines_hold d.units) (directories_hold d) (profile_holds s) (budget_holds s) (shown_hold d) l e
 
 below_by : (t : List ℕ) (names : List (List ℕ)) (o : Option ℕ) → row_among t names ≡ o → is_some o ≡ true → unwrap_or o 0 < length names
 below_by t names None e h = absurd (false≢true h)
@@ -86,12 +88,20 @@ less_test : (a b : ℕ) → a < b → nat_lt a b ≡ true
 less_test a b h = grind (arith, nat_tests)
 
 -- A unit passes `is_unit` if its file is known and its definitions are single lines, not too long in total.
-unit_passes : (names : List (List ℕ)) (p : Profile) (u : DraftUnit) → is_some (row_among u.file names) ≡ true → list_all is_one_line u.defines ≡ true
+first_below : (names : List (List ℕ)) (files : List DraftPath) → list_all (λ (p : DraftPath). is_known names p.name) files ≡ true
+    → list_all (λ (f : FirstFile). nat_lt f.file (length names)) (listed_first names files) ≡ true
+first_below names [] h = refl
+first_below names (p ∷ ps) h =
+    let both = and_parts _ _ h in
+    rw (less_test _ _ (place_below p.name names both.0), first_below names ps both.1) refl
+
+unit_passes : (names : List (List ℕ)) (p : Profile) (u : DraftUnit) → (is_known names u.file && list_all (λ (p : DraftPath). is_known names p.name) u.first) ≡ true → list_all is_one_line u.defines ≡ true
     → nat_le (length (command_text u.defines)) longest ≡ true
     → is_unit (length names) p (listed_unit p names u) ≡ true
 unit_passes names p u known lines fits =
-    let below : nat_lt (unwrap_or (row_among u.file names) 0) (length names) ≡ true = less_test _ _ (place_below u.file names known) in
-    rw (below, same_as_itself p, lines, fits) refl
+    let both = and_parts _ _ known in
+    let below : nat_lt (unwrap_or (row_among u.file names) 0) (length names) ≡ true = less_test _ _ (place_below u.file names both.0) in
+    rw (below, first_below names u.first both.1, same_as_itself p, lines, fits) refl
 
 contents-small : (inline : Bool) (d : Draft) → All (λ (f : DraftFile). length f.content ≤ longest) d.files → All (λ bytes. length bytes ≤ longest) (listed inline d).contents
 contents-small true d h = All-map (λ (bytes : List ℕ). length bytes ≤ longest) (λ (f : DraftFile). f.content) d.files h
@@ -113,7 +123,7 @@ validated-runnable inline d l e =
     let short : All (λ (f : DraftFile). length f.content ≤ longest) d.files =
     All-weaker _ _ (λ f h. leb-true (length f.content) longest h) d.files
     (AllPass-from_list_all (λ (f : DraftFile). nat_le (length f.content) longest) d.files contents_pass) in
-    let known = AllPass-from_list_all (λ (u : DraftUnit). is_some (row_among u.file names)) d.units p.files_pass in
+    let known = AllPass-from_list_all (λ (u : DraftUnit). is_known names u.file && list_all (λ (p : DraftPath). is_known names p.name) u.first) d.units p.files_pass in
     let lines = AllPass-from_list_all (λ (u : DraftUnit). list_all is_one_line u.defines) d.units p.lines_pass in
     let fit = AllPass-from_list_all (λ (u : DraftUnit). nat_le (length (command_text u.defines)) longest) d.units (and_parts _ _ p.sizes_pass).1 in
     let IsGood = λ (u : UnitOfList). is_unit (length names) (profile_of d.setting) u ≡ true in

@@ -5,10 +5,10 @@ use Rattle.std.proofs.lemmas.Option.{none-some, same_Some}
 use Rattle.serde_json.specs.Data.{Data}
 use Rattle.ppserve.specs.Drafting.{draft}
 use Rattle.ppserve.specs.Drafts.{Draft}
-use Rattle.ppserve.specs.Laws.{HoldsDraft, Applies, too_long, no_json, no_shape, wrong_names, wrong_sizes, unknown_file, wrong_times, wrong_lines, wrong_directories, wrong_profile, wrong_budget}
+use Rattle.ppserve.specs.Laws.{HoldsDraft, Applies, too_long, no_json, no_shape, wrong_names, wrong_sizes, unknown_file, wrong_times, wrong_lines, wrong_directories, wrong_profile, wrong_budget, wrong_shown}
 use Rattle.ppserve.specs.Laws.{IsLeast, IsAccepted, RefusesByTheLeast, AcceptsTheRest}
 use Rattle.ppserve.specs.Listing.{Verdict, accepted, refused, json_value, verdict_of, validated, listed, names_of, names_hold, sizes_hold, are_known, times_hold, lines_hold}
-use Rattle.ppserve.specs.Listing.{directories_hold, profile_holds, budget_holds, max_input}
+use Rattle.ppserve.specs.Listing.{directories_hold, profile_holds, budget_holds, shown_hold, max_input}
 use Rattle.ppserve.specs.Shape.{IsDraft}
 use Rattle.ppserve.specs.CompilationList.{CompilationList}
 use Rattle.ppserve.proofs.DraftShape.{decides}
@@ -57,7 +57,7 @@ first_taken (true ∷ bs) n list taken e =
 abbrev tests : Draft → List Bool
 tests d =
     names_hold d.files ∷ (sizes_hold d ∷ (are_known (names_of d.files) d.units ∷ (times_hold d.setting ∷ (lines_hold d.units
-    ∷ (directories_hold d ∷ (profile_holds d.setting ∷ (budget_holds d.setting ∷ [])))))))
+    ∷ (directories_hold d ∷ (profile_holds d.setting ∷ (budget_holds d.setting ∷ (shown_hold d ∷ []))))))))
 
 applies_of : (inline : Bool) (bytes : List ℕ) (d : Draft) (m : ℕ) → HoldsDraft inline bytes d → Fails (tests d) 3 m → Applies inline bytes m
 applies_of inline bytes d m h (here e) = wrong_names h e
@@ -68,7 +68,8 @@ applies_of inline bytes d m h (there (there (there (there (here e))))) = wrong_l
 applies_of inline bytes d m h (there (there (there (there (there (here e)))))) = wrong_directories h e
 applies_of inline bytes d m h (there (there (there (there (there (there (here e))))))) = wrong_profile h e
 applies_of inline bytes d m h (there (there (there (there (there (there (there (here e)))))))) = wrong_budget h e
-applies_of inline bytes d m h (there (there (there (there (there (there (there (there f)))))))) = elim f [ ]
+applies_of inline bytes d m h (there (there (there (there (there (there (there (there (here e))))))))) = wrong_shown h e
+applies_of inline bytes d m h (there (there (there (there (there (there (there (there (there f))))))))) = elim f [ ]
 
 -- Bytes hold at most one draft.
 one_draft : (inline : Bool) (bytes : List ℕ) (x y : Draft) → HoldsDraft inline bytes x → HoldsDraft inline bytes y → x ≡ y
@@ -94,6 +95,8 @@ fails_of inline bytes d m fits h (wrong_profile {x = x} k e) =
     there (there (there (there (there (there (here (ap (λ (y : Draft). profile_holds y.setting) (one_draft inline bytes d x h k) ∙ e)))))))
 fails_of inline bytes d m fits h (wrong_budget {x = x} k e) =
     there (there (there (there (there (there (there (here (ap (λ (y : Draft). budget_holds y.setting) (one_draft inline bytes d x h k) ∙ e))))))))
+fails_of inline bytes d m fits h (wrong_shown {x = x} k e) =
+    there (there (there (there (there (there (there (there (here (ap shown_hold (one_draft inline bytes d x h k) ∙ e)))))))))
 
 -- ---- the outcome of bytes
 
@@ -123,6 +126,7 @@ from_one inline bytes m (wrong_lines h e) = omega arith
 from_one inline bytes m (wrong_directories h e) = omega arith
 from_one inline bytes m (wrong_profile h e) = omega arith
 from_one inline bytes m (wrong_budget h e) = omega arith
+from_one inline bytes m (wrong_shown h e) = omega arith
 
 -- If the bytes are not too long and hold a JSON value, only refusals from 2 on apply.
 from_two : (inline : Bool) (bytes : List ℕ) (value : Data) (m : ℕ) → length bytes ≤ max_input → json_value bytes ≡ Some value → Applies inline bytes m → 2 ≤ m
@@ -137,6 +141,7 @@ from_two inline bytes value m fits is (wrong_lines h e) = omega arith
 from_two inline bytes value m fits is (wrong_directories h e) = omega arith
 from_two inline bytes value m fits is (wrong_profile h e) = omega arith
 from_two inline bytes value m fits is (wrong_budget h e) = omega arith
+from_two inline bytes value m fits is (wrong_shown h e) = omega arith
 
 told_value : (inline : Bool) (bytes : List ℕ) (value : Data) (x : Option Draft) → length bytes ≤ max_input → json_value bytes ≡ Some value → draft inline value ≡ x
     → Told inline bytes (verdict_of inline bytes)

@@ -38,3 +38,13 @@ pub mod BufferPrefix
 pub mod LaneMasks
 -- What a run delivers, from its printing to the streams of `serve`.
 pub mod Delivery
+-- The include chain, by slices of items.
+pub mod IncludeChain
+-- Texts with a `|` before each line, piece by piece.
+pub mod BarredLines
+-- What is left of a text when items are printed, with tokens that are held.
+pub mod TextItems
+-- The items of a segment, by slices, and the text of a segment.
+pub mod SegmentItems
+-- A text begins anew at each mark: the text of items is that of their segments.
+pub mod Segments

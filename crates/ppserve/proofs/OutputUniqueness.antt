@@ -1,5 +1,5 @@
 -- A run's output depends only on the mode, the input bytes and the file contents.
-use Rattle.std.proofs.Common.{◌≡◌, ℕ, zero, suc, ◌<◌, ◌≤◌, Bool, true, false, List, [], ◌∷◌, ◌++◌, length, Option, Some, None, IsSome, refl, sym, ap, ◌∙◌, subst, arith, inl, inr}
+use Rattle.std.proofs.Common.{◌≡◌, ℕ, zero, suc, ◌≤◌, Bool, true, false, List, [], ◌∷◌, ◌++◌, length, Option, Some, None, IsSome, refl, sym, ap, ◌∙◌, subst, arith, inl, inr}
 use Rattle.std.proofs.lemmas.Bool.{cases_lt}
 use Rattle.std.proofs.lemmas.List.{get_or-map}
 use Rattle.std.proofs.lemmas.List.Elements.{All-weaker}
@@ -9,7 +9,7 @@ use Rattle.ppshelf.specs.Files.{Files, file_at, Extends, Agree, or_else}
 use Rattle.ppshelf.specs.Names.{AreNames}
 use Rattle.ppshelf.proofs.NameRows.{names_from_test}
 use Rattle.ppunit.specs.Laws.{HasOneValue, KnowsAll}
-use Rattle.ppunit.specs.Unit.{IsUnitOf}
+use Rattle.ppunit.specs.Unit.{IsUnitOf, HasRows}
 use Rattle.ppunit.specs.Units.{AreUnits}
 use Rattle.ppunit.specs.declared.units.Setting.{Setting}
 use Rattle.ppunit.specs.declared.units.Unit.{Unit as UnitOfList}
@@ -156,7 +156,7 @@ some_output some mode bytes list is =
     let from_draft = validated_as true bytes list is in
     let runs = validated-runnable true from_draft.0 list from_draft.1 in
     let known = knows_contents list.names list.contents (validated-contents from_draft.0 list from_draft.1) in
-    let within = All-weaker (IsUnitOf (length list.names) list.setting.profile) (λ unit. unit.file < length list.names) (λ unit fit. fit.0) list.units (can_run list list.names list.units runs refl refl) in
+    let within = All-weaker (IsUnitOf (length list.names) list.setting.profile) (HasRows (length list.names)) (λ unit fit. fit.0) list.units (can_run list list.names list.units runs refl refl) in
     let values = some list.names (files_of list.contents) list.setting list.units known within in
     record {
       any = any_fault values.0;

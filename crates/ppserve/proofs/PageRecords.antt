@@ -3,9 +3,39 @@ use Rattle.std.proofs.Common.{◌≡◌, ℕ, zero, suc, ◌+◌, ◌<◌, List,
 use Rattle.std.proofs.lemmas.Grind.{flat_map-append}
 use Rattle.std.proofs.lemmas.List.{take_more, drop_more}
 use Rattle.ppserve.specs.declared.rounds.Page.{Page}
-use Rattle.ppserve.specs.code.Records.{Record}
-use Rattle.ppserve.specs.code.Rounds.{page_records}
+use Rattle.std.specs.Prelude.{Bool, false, Option, Some, All}
+use Rattle.std.proofs.lemmas.List.Elements.{All-weaker}
+use Rattle.ppserve.specs.declared.line_cursor.LineCursor.{LineCursor}
+use Rattle.ppserve.specs.declared.output.Output.{Output}
+use Rattle.ppserve.specs.code.Printing.{Puts}
+use Rattle.ppserve.specs.code.Records.{Record, Alike, IsOver}
+use Rattle.ppserve.specs.code.Rounds.{page_records, IsAlike}
 use Rattle.ppserve.proofs.BufferedPrinting.{more_of}
+use Rattle.ppserve.proofs.KnownStreamBytes.{written_alone}
+
+pub alike_then : {a b c : LineCursor} → Alike a b → Alike b c → Alike a c
+alike_then p q = record { output = p.output ∙ q.output; flags = p.flags ∙ q.flags }
+
+pub alike_back : {a b : LineCursor} → Alike a b → Alike b a
+alike_back p = record { output = sym p.output; flags = sym p.flags }
+
+-- Two positions in one output are alike.
+both_over : {output : Output} {a b : LineCursor} → IsOver output a → IsOver output b → Alike a b
+both_over p q = record { output = p.output ∙ sym q.output; flags = p.flags ∙ sym q.flags }
+
+pub all_over : (output : Output) (c : LineCursor) (pages : List Page) → IsOver output c → All (λ page. IsOver output page.start) pages → All (IsAlike c) pages
+all_over output c pages over all = All-weaker (λ page. IsOver output page.start) (IsAlike c) (λ page is. both_over is over) pages all
+
+-- Pages that are alike one position are alike one that is alike it.
+pub all_alike : (a b : LineCursor) (pages : List Page) → Alike a b → All (IsAlike a) pages → All (IsAlike b) pages
+all_alike a b pages same all = All-weaker (IsAlike a) (IsAlike b) (λ page is. alike_then is same) pages all
+
+-- If nothing is written and no write failed, a buffer that was empty has the text.
+pub kept_lines : {V : Type 0} {written : V → Option (List ℕ)} {has_failed : V → Bool} {w v : V} {p q text : List ℕ}
+    → p ≡ [] → written w ≡ Some [] → written v ≡ Some [] → has_failed v ≡ false → Puts written has_failed w v p q text → q ≡ text
+kept_lines {written = written} {w = w} {v = v} {text = text} empty before after fine a =
+    let none : [] ≡ a.prefix = written_alone (written w) (written v) [] a.prefix before after a.appends in
+    sym (ap (λ (l : List ℕ). l ++ text) (sym empty) ∙ (a.parts ∙ (ap (λ (l : List ℕ). l ++ a.rest) (sym none) ∙ a.unwritten fine)))
 
 -- Lists of pages with equal records, page by page, have equal records in total.
 pub same_records : (xs ys : List Page) → length ys ≡ length xs → ((i : ℕ) (d : Page) → i < length xs → page_records (get_or ys i d) ≡ page_records (get_or xs i d)) → flat_map page_records ys ≡ flat_map page_records xs

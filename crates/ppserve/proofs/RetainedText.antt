@@ -6,7 +6,7 @@ use Rattle.ppunit.specs.declared.units.Unit.{Unit as UnitOfList}
 use Rattle.ppunit.specs.declared.units.UnitOut.{UnitOut}
 use Rattle.pppool.specs.Retained.{retained}
 use Rattle.ppserve.specs.declared.output.Mode.{Mode}
-use Rattle.ppserve.specs.declared.output.Mode.TheVariants.{Dump, Deps}
+use Rattle.ppserve.specs.declared.output.Mode.TheVariants.{Dump, Deps, Faults, Text}
 use Rattle.ppserve.specs.code.NeededRetention.{needed_retention}
 use Rattle.ppserve.specs.Output.{numbered, unit_lines}
 use Rattle.ppserve.specs.Serving.{any_fault}
@@ -15,6 +15,8 @@ use Rattle.ppserve.specs.Serving.{any_fault}
 lines_kept : (mode : Mode) (names : List (List ℕ)) (i : ℕ) (unit : UnitOfList) (out : UnitOut) → unit_lines mode names i unit (retained (needed_retention mode) out) ≡ unit_lines mode names i unit out
 lines_kept Dump names i unit out = refl
 lines_kept Deps names i unit out = refl
+lines_kept Faults names i unit out = refl
+lines_kept Text names i unit out = refl
 
 -- The retained outputs of all units print as the whole outputs.
 pub text_kept : (mode : Mode) (names : List (List ℕ)) (i : ℕ) (units : List UnitOfList) (outs : List UnitOut)
@@ -28,6 +30,8 @@ text_kept mode names i (u ∷ units) (out ∷ outs) =
 fault_kept : (mode : Mode) (out : UnitOut) → is_some (retained (needed_retention mode) out).fault ≡ is_some out.fault
 fault_kept Dump out = refl
 fault_kept Deps out = refl
+fault_kept Faults out = refl
+fault_kept Text out = refl
 
 -- Retaining preserves whether some unit has a fault.
 pub some_fault_kept : (mode : Mode) (outs : List UnitOut) → any_fault (map (retained (needed_retention mode)) outs) ≡ any_fault outs

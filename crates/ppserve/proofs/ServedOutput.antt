@@ -1,5 +1,5 @@
 -- The values of a list's units over known files, and the output of a run.
-use Rattle.std.proofs.Common.{Bool, ◌≡◌, ℕ, ◌<◌, ◌≤◌, List, [], map, length, get_or, take, Option, Some}
+use Rattle.std.proofs.Common.{Bool, ◌≡◌, ℕ, ◌<◌, ◌≤◌, List, [], map, length, get_or, Option, Some}
 use Rattle.std.proofs.Common.{None, IsSome, All, sym, ap, ◌∙◌, subst, arith, refl, replicate, inl, inr}
 use Rattle.std.proofs.lemmas.Bool.{cases_lt, false≢true}
 use Rattle.std.proofs.lemmas.List.Elements.{All-weaker, All-nil}
@@ -12,7 +12,6 @@ use Rattle.ppunit.specs.declared.units.UnitOut.{UnitOut}
 use Rattle.ppunit.specs.Unit.{IsUnitOf}
 use Rattle.ppunit.specs.Units.{AreUnits}
 use Rattle.ppunit.proofs.UnitTest.{unit_of}
-use Rattle.pppool.specs.declared.retention.Retain.{Retain}
 use Rattle.pppool.specs.Retained.{retained}
 use Rattle.pppool.specs.Laws.{ListGrows}
 use Rattle.ppserve.specs.CompilationList.{CompilationList}

@@ -2,9 +2,9 @@
 use Rattle.std.specs.Prelude.{◌≡◌, ◌↔◌, ℕ, Bool, true, false, List, [], ◌∷◌}
 use Rattle.std.specs.Prelude.{if◌then◌else◌, codes, Option, Some, None, option_map, option_and_then}
 use Rattle.serde_json.specs.Data.{Num, Data, Items, no_items, item}
-use Rattle.serde_json.specs.Find.{get, as_number, as_str, as_array, as_u64}
-use Rattle.ppserve.specs.Shape.{is_object_of, file_members, unit_members, list_members, hex_bytes, IsDraft}
-use Rattle.ppserve.specs.Drafts.{DraftFile, DraftUnit, DraftBudget, Missing, Integer, Other, DraftSetting, Draft}
+use Rattle.serde_json.specs.Find.{get, as_bool, as_number, as_str, as_array, as_u64}
+use Rattle.ppserve.specs.Shape.{is_object_of, file_members, unit_members, path_members, list_members, hex_bytes, IsDraft}
+use Rattle.ppserve.specs.Drafts.{DraftFile, DraftPath, DraftUnit, DraftBudget, Missing, Integer, Other, DraftSetting, Draft}
 
 -- the result of a part, if there is one
 abbrev pub with_part : {A B : Type 0} → Option A → (A → Option B) → Option B
@@ -37,6 +37,47 @@ texts_of (Some d) = each_of as_str d
 abbrev pub texts_at : List ℕ → Data → Option (List (List ℕ))
 texts_at name d = texts_of (get name d)
 
+-- the text of a member, if there is one
+abbrev pub optional_text : Option Data → Option (Option (List ℕ))
+optional_text None = Some None
+optional_text (Some d) = option_map (λ (t : List ℕ). Some t) (as_str d)
+
+abbrev pub optional_text_at : List ℕ → Data → Option (Option (List ℕ))
+optional_text_at name d = optional_text (get name d)
+
+-- a member that is true or false; false if it is missing
+abbrev pub flag_of : Option Data → Option Bool
+flag_of None = Some false
+flag_of (Some d) = as_bool d
+
+abbrev pub flag_at : List ℕ → Data → Option Bool
+flag_at name d = flag_of (get name d)
+
+abbrev pub path_of_object : Data → Option DraftPath
+path_of_object d =
+    if is_object_of path_members d then
+    with_part (text_at (codes "name") d) (λ name.
+    with_part (optional_text_at (codes "shown") d) (λ shown.
+    with_part (flag_at (codes "system") d) (λ system.
+    Some (record { name = name; shown = shown; system = system }))))
+    else None
+
+-- a directory that is searched, or a file that is read first
+abbrev pub path_or : Option DraftPath → Option (List ℕ) → Option DraftPath
+path_or other None = other
+path_or other (Some name) = Some (record { name = name; shown = None; system = false })
+
+abbrev pub draft_path : Data → Option DraftPath
+draft_path d = path_or (path_of_object d) (as_str d)
+
+-- the paths of an array, and none where it is missing
+abbrev pub paths_of : Option Data → Option (List DraftPath)
+paths_of None = Some []
+paths_of (Some d) = each_of draft_path d
+
+abbrev pub paths_at : List ℕ → Data → Option (List DraftPath)
+paths_at name d = paths_of (get name d)
+
 -- the content from exactly one of `text` and `hex`
 abbrev pub content_from : Option Data → Option Data → Option (List ℕ)
 content_from None None = None
@@ -61,9 +102,11 @@ abbrev pub draft_unit : Data → Option DraftUnit
 draft_unit d =
     if is_object_of unit_members d then
     with_part (text_at (codes "file") d) (λ file.
+    with_part (optional_text_at (codes "shown") d) (λ shown.
     with_part (texts_at (codes "define") d) (λ defines.
-    with_part (texts_at (codes "search") d) (λ directories.
-    Some (record { file = file; defines = defines; search = directories }))))
+    with_part (paths_at (codes "first") d) (λ first.
+    with_part (paths_at (codes "search") d) (λ directories.
+    Some (record { file = file; shown = shown; defines = defines; first = first; search = directories }))))))
     else None
 
 -- the name of the profile: `c11` if the member is missing
@@ -89,7 +132,7 @@ draft_setting d =
     with_part (budget_at d) (λ draft_budget.
     with_part (text_at (codes "date") d) (λ date.
     with_part (text_at (codes "time") d) (λ time.
-    with_part (texts_at (codes "search") d) (λ directories.
+    with_part (paths_at (codes "search") d) (λ directories.
     Some (record { profile = profile; budget = draft_budget; date = date; time = time; search = directories }))))))
 
 -- the draft, if the value has the members of a list and no others

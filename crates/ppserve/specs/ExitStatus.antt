@@ -11,7 +11,7 @@ status_of (Err fault.Memory) = 4
 status_of (Err fault.Read) = 5
 status_of (Err fault.Write) = 5
 
--- the name of a refusal, which has one of the numbers 1 to 10
+-- the name of a refusal, which has one of the numbers 1 to 11
 abbrev pub refusal_name : ℕ → List ℕ
 refusal_name number =
     if number == 1 then codes " L1" else (
@@ -23,7 +23,8 @@ refusal_name number =
     if number == 7 then codes " L7" else (
     if number == 8 then codes " L8" else (
     if number == 9 then codes " L9" else (
-    if number == 10 then codes " L10" else codes "")))))))))
+    if number == 10 then codes " L10" else (
+    if number == 11 then codes " L11" else codes ""))))))))))
 
 abbrev pub words_of : RunFault → List ℕ
 words_of (fault.List number) = codes "cppunits: list refused" ++ refusal_name number

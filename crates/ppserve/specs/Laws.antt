@@ -5,7 +5,7 @@ use Rattle.ppshelf.specs.Files.{Files, Agree}
 use Rattle.ppserve.specs.Contents.{AreInList}
 use Rattle.ppserve.specs.Drafts.{Draft}
 use Rattle.ppserve.specs.Listing.{json_value, max_input, names_of, names_hold, sizes_hold, are_known, times_hold, lines_hold, directories_hold}
-use Rattle.ppserve.specs.Listing.{profile_holds, budget_holds, listed, verdict_of, accepted, refused}
+use Rattle.ppserve.specs.Listing.{profile_holds, budget_holds, shown_hold, listed, verdict_of, accepted, refused}
 use Rattle.ppserve.specs.Serving.{Stream, Serves, IsOutput}
 use Rattle.ppserve.specs.Shape.{IsDraft}
 use Rattle.ppserve.specs.CompilationList.{CompilationList}
@@ -35,6 +35,7 @@ pub data Applies (inline : Bool) (bytes : List ℕ) : ℕ → Type 0 where
   wrong_directories : {x : Draft} → HoldsDraft inline bytes x → directories_hold x ≡ false → Applies inline bytes 8
   wrong_profile : {x : Draft} → HoldsDraft inline bytes x → profile_holds x.setting ≡ false → Applies inline bytes 9
   wrong_budget : {x : Draft} → HoldsDraft inline bytes x → budget_holds x.setting ≡ false → Applies inline bytes 10
+  wrong_shown : {x : Draft} → HoldsDraft inline bytes x → shown_hold x ≡ false → Applies inline bytes 11
 
 -- P holds of this number, and of no smaller one
 pub record IsLeast (P : ℕ → Type 0) (number : ℕ) : Type 0 where

@@ -10,14 +10,16 @@ use Rattle.pptext.specs.declared.sources.Profile.{Profile}
 use Rattle.pptext.specs.declared.sources.Profile.TheVariants.{C11, Later, Gnu}
 use Rattle.ppshelf.specs.Content.{longest}
 use Rattle.ppshelf.specs.Files.{max_rows}
-use Rattle.ppshelf.specs.Names.{AreNames, are_names, is_directory, row_among}
+use Rattle.ppshelf.specs.Names.{AreNames, are_names, is_directory, is_name_byte, row_among}
 use Rattle.ppunit.specs.WellFormed.{is_date, is_time, is_one_line, is_setting, is_unit}
 use Rattle.ppunit.specs.Unit.{command_text}
 use Rattle.ppunit.specs.declared.units.Setting.{Setting}
 use Rattle.ppunit.specs.declared.units.Unit.{Unit as UnitOfList}
+use Rattle.ppunit.specs.declared.units.ShownDirectory.{ShownDirectory}
+use Rattle.ppunit.specs.declared.units.FirstFile.{FirstFile}
 use Rattle.ppserve.specs.Drafting.{draft}
 use Rattle.ppserve.specs.CompilationList.{CompilationList}
-use Rattle.ppserve.specs.Drafts.{DraftFile, DraftUnit, DraftBudget, Missing, Integer, Other, DraftSetting, Draft}
+use Rattle.ppserve.specs.Drafts.{DraftFile, DraftPath, DraftUnit, DraftBudget, Missing, Integer, Other, DraftSetting, Draft}
 
 -- a list, or the number of its refusal
 pub data Verdict : Type 0 where
@@ -51,9 +53,18 @@ commands_fit = list_all (λ (u : DraftUnit). nat_le (length (command_text u.defi
 abbrev pub sizes_hold : Draft → Bool
 sizes_hold d = nat_le (length d.files) max_rows && nat_le (length d.units) max_rows && contents_fit d.files && commands_fit d.units
 
--- each unit's file is among the names
+abbrev pub is_known : List (List ℕ) → List ℕ → Bool
+is_known names name = is_some (row_among name names)
+
+abbrev pub paths_are_known : List (List ℕ) → List DraftPath → Bool
+paths_are_known names = list_all (λ (p : DraftPath). is_known names p.name)
+
+-- a unit's file, and those that are read first, are among the names
+abbrev pub unit_is_known : List (List ℕ) → DraftUnit → Bool
+unit_is_known names u = is_known names u.file && paths_are_known names u.first
+
 abbrev pub are_known : List (List ℕ) → List DraftUnit → Bool
-are_known names = list_all (λ (u : DraftUnit). is_some (row_among u.file names))
+are_known names = list_all (unit_is_known names)
 
 abbrev pub times_hold : DraftSetting → Bool
 times_hold s = is_date s.date && is_time s.time
@@ -62,9 +73,35 @@ times_hold s = is_date s.date && is_time s.time
 abbrev pub lines_hold : List DraftUnit → Bool
 lines_hold = list_all (λ (u : DraftUnit). list_all is_one_line u.defines)
 
+abbrev pub are_directories : List DraftPath → Bool
+are_directories = list_all (λ (p : DraftPath). is_directory p.name)
+
 -- each search path is a directory name
 abbrev pub directories_hold : Draft → Bool
-directories_hold d = list_all is_directory d.setting.search && list_all (λ (u : DraftUnit). list_all is_directory u.search) d.units
+directories_hold d = are_directories d.setting.search && list_all (λ (u : DraftUnit). are_directories u.search) d.units
+
+-- the largest number of bytes in a shown name
+abbrev pub longest_shown : ℕ
+longest_shown = 4096
+
+-- a name under which a file or a directory may be shown, in no normal form: 1 to 4,096 bytes, none of which is a control
+-- character of ASCII
+abbrev pub is_shown : List ℕ → Bool
+is_shown s = nat_le 1 (length s) && nat_le (length s) longest_shown && list_all is_name_byte s
+
+abbrev pub is_shown_if_any : Option (List ℕ) → Bool
+is_shown_if_any None = true
+is_shown_if_any (Some s) = is_shown s
+
+abbrev pub are_shown : List DraftPath → Bool
+are_shown = list_all (λ (p : DraftPath). is_shown_if_any p.shown)
+
+abbrev pub unit_is_shown : DraftUnit → Bool
+unit_is_shown u = is_shown_if_any u.shown && are_shown u.first && are_shown u.search
+
+-- each shown name is one
+abbrev pub shown_hold : Draft → Bool
+shown_hold d = are_shown d.setting.search && list_all unit_is_shown d.units
 
 -- the profile with this name
 abbrev pub profile_named : List ℕ → Option Profile
@@ -98,30 +135,41 @@ budget_of Missing = None
 budget_of (Integer n) = Some n
 budget_of Other = None
 
+-- the names of directories, and how each is shown
+abbrev pub path_names : List DraftPath → List (List ℕ)
+path_names paths = map (λ (p : DraftPath). p.name) paths
+
+abbrev pub shown_directories : List DraftPath → List ShownDirectory
+shown_directories paths = map (λ (p : DraftPath). record { shown = p.shown; system = p.system }) paths
+
 abbrev pub listed_setting : DraftSetting → Setting
 listed_setting s = record {
   profile = profile_of s;
   date = s.date;
   time = s.time;
-  search = s.search;
+  search = path_names s.search;
+  search_shown = shown_directories s.search;
   budget = budget_of s.budget;
 }
 
--- the row of a unit's file
-abbrev pub file_row : List (List ℕ) → DraftUnit → ℕ
-file_row names u = unwrap_or (row_among u.file names) 0
+-- the row of a name
+abbrev pub row_of : List (List ℕ) → List ℕ → ℕ
+row_of names name = unwrap_or (row_among name names) 0
 
--- a unit whose file has this row, and whose definitions are read with this profile
-abbrev pub unit_in : Profile → ℕ → DraftUnit → UnitOfList
-unit_in profile row u = record {
-  file = row;
-  defines = record { texts = u.defines; profile = profile };
-  search = u.search;
-}
+-- files that are read first
+abbrev pub listed_first : List (List ℕ) → List DraftPath → List FirstFile
+listed_first names files = map (λ (p : DraftPath). record { file = row_of names p.name; shown = p.shown; system = p.system }) files
 
 -- a unit, whose definitions are read with this profile
 abbrev pub listed_unit : Profile → List (List ℕ) → DraftUnit → UnitOfList
-listed_unit profile names u = unit_in profile (file_row names u) u
+listed_unit profile names u = record {
+  file = row_of names u.file;
+  shown = u.shown;
+  defines = record { texts = u.defines; profile = profile };
+  first = listed_first names u.first;
+  search = path_names u.search;
+  search_shown = shown_directories u.search;
+}
 
 -- the list of a draft, with its contents if the list holds them
 abbrev pub listed : Bool → Draft → CompilationList
@@ -136,7 +184,8 @@ listed inline d = record {
 abbrev pub validated_choices : Bool → Draft → Verdict
 validated_choices inline d =
     if not (profile_holds d.setting) then refused 9 else (
-    if not (budget_holds d.setting) then refused 10 else accepted (listed inline d))
+    if not (budget_holds d.setting) then refused 10 else (
+    if not (shown_hold d) then refused 11 else accepted (listed inline d)))
 
 -- the list of a draft whose units have their files, or its refusal
 abbrev pub validated_texts : Bool → Draft → Verdict

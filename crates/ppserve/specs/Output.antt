@@ -11,9 +11,12 @@ use Rattle.ppunit.specs.declared.units.Item.{Item}
 use Rattle.ppunit.specs.declared.units.Item.TheVariants as item
 use Rattle.ppunit.specs.declared.units.UnitOut.{UnitOut}
 use Rattle.ppunit.specs.declared.units.Unit.{Unit as UnitOfList}
+use Rattle.ppunit.specs.Chain.{chain}
+use Rattle.ppprint.specs.Located.{shown}
+use Rattle.ppprint.specs.Text.{text_of}
 use Rattle.ppserve.specs.CompilationList.{CompilationList}
 use Rattle.ppserve.specs.declared.output.Mode.{Mode}
-use Rattle.ppserve.specs.declared.output.Mode.TheVariants.{Dump, Deps}
+use Rattle.ppserve.specs.declared.output.Mode.TheVariants.{Dump, Deps, Faults, Text}
 
 -- an upper-case hexadecimal digit
 abbrev pub hex_digit : ℕ → ℕ
@@ -55,9 +58,11 @@ token_text t =
 abbrev pub pragma_token_line : Token → List ℕ
 pragma_token_line t = codes "ptok" ++ token_text t
 
+-- a mark has no line
 abbrev pub item_lines : Item → List ℕ
 item_lines (item.Token t) = codes "tok" ++ token_text t
 item_lines (item.Pragma at ts) = codes "prag " ++ place_text at ++ (10 ∷ []) ++ flat_map pragma_token_line ts
+item_lines (item.Mark m) = []
 
 abbrev pub dep_line : List (List ℕ) → ℕ → List ℕ
 dep_line names row = codes "dep " ++ decimal row ++ codes " " ++ percent_encoded (name_in names row) ++ (10 ∷ [])
@@ -71,18 +76,40 @@ abbrev pub last_line : Option Fault → List ℕ
 last_line None = codes "ok" ++ (10 ∷ [])
 last_line (Some f) = codes "fault " ++ decimal f.number ++ codes " " ++ place_text f.at ++ fault_text f.text ++ (10 ∷ [])
 
--- what the modes print: each prints a unit's dependencies and its fault, and this mode its items, too
+-- a line of the include chain: the location of an include line
+abbrev pub in_line : Place → List ℕ
+in_line at = codes "in " ++ place_text at ++ (10 ∷ [])
+
+-- the text after a `|` at the beginning of each line; `begins` says whether a line begins with the text
+abbrev pub barred : Bool → List ℕ → List ℕ
+barred begins [] = []
+barred begins (c ∷ cs) = (if begins then 124 ∷ [] else []) ++ c ∷ barred (c == 10) cs
+
+-- what the modes print: each prints a unit's fault, and these modes its items, too
 abbrev pub shows_items : Mode → Bool
 shows_items Dump = true
 shows_items Deps = false
+shows_items Faults = false
+shows_items Text = true
 
-abbrev pub shown_item_lines : Mode → List Item → List ℕ
-shown_item_lines mode items = if shows_items mode then flat_map item_lines items else []
+-- the lines of items: one for each token, each pragma and each token of a pragma, or the text that a compiler takes
+abbrev pub shown_item_lines : Mode → List (List ℕ) → List Item → List ℕ
+shown_item_lines Dump names items = flat_map item_lines items
+shown_item_lines Deps names items = []
+shown_item_lines Faults names items = []
+shown_item_lines Text names items = barred true (text_of (shown names items))
+
+-- the lines before the last: the dependencies, or the include chain
+abbrev pub lines_before_last : Mode → List (List ℕ) → UnitOut → List ℕ
+lines_before_last Dump names out = flat_map (dep_line names) out.deps
+lines_before_last Deps names out = flat_map (dep_line names) out.deps
+lines_before_last Text names out = flat_map (dep_line names) out.deps
+lines_before_last Faults names out = flat_map in_line (chain out.items)
 
 abbrev pub unit_lines : Mode → List (List ℕ) → ℕ → UnitOfList → UnitOut → List ℕ
 unit_lines mode names i unit out =
     codes "unit " ++ decimal i ++ codes " " ++ percent_encoded (name_in names unit.file) ++ (10 ∷ [])
-    ++ shown_item_lines mode out.items ++ flat_map (dep_line names) out.deps ++ last_line out.fault
+    ++ shown_item_lines mode names out.items ++ lines_before_last mode names out ++ last_line out.fault
 
 -- f of each pair, concatenated, numbered from n
 abbrev pub numbered : {A B : Type 0} → (ℕ → A → B → List ℕ) → ℕ → List A → List B → List ℕ

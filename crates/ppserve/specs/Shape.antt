@@ -3,9 +3,9 @@ use Rattle.std.specs.Prelude.{◌≡◌, ℕ, ◌+◌, ◌-◌, ◌*◌, ◌&&�
 use Rattle.std.specs.Prelude.{if◌then◌else◌, nat_le, codes, Option, Some, None, option_map, option_and_then, unwrap_or}
 use Rattle.std.specs.List.{list_any}
 use Rattle.std.specs.Str.{bytes_eq}
-use Rattle.serde_json.specs.Data.{Num, Data, number, string, array, Items, no_items, item, Members, no_members, member}
+use Rattle.serde_json.specs.Data.{Num, Data, boolean, number, string, array, Items, no_items, item, Members, no_members, member}
 use Rattle.serde_json.specs.Find.{get, as_object, as_u64}
-use Rattle.ppserve.specs.Drafts.{DraftFile, DraftUnit, DraftBudget, Missing, Integer, Other, DraftSetting, Draft}
+use Rattle.ppserve.specs.Drafts.{DraftFile, DraftPath, DraftUnit, DraftBudget, Missing, Integer, Other, DraftSetting, Draft}
 
 -- ---- names of members
 
@@ -26,7 +26,11 @@ file_members true = codes "name" ∷ codes "text" ∷ codes "hex" ∷ []
 file_members false = codes "name" ∷ []
 
 abbrev pub unit_members : List (List ℕ)
-unit_members = codes "file" ∷ codes "define" ∷ codes "search" ∷ []
+unit_members = codes "file" ∷ codes "shown" ∷ codes "define" ∷ codes "first" ∷ codes "search" ∷ []
+
+-- the members of a directory that is searched, and of a file that is read first
+abbrev pub path_members : List (List ℕ)
+path_members = codes "name" ∷ codes "shown" ∷ codes "system" ∷ []
 
 abbrev pub list_members : List (List ℕ)
 list_members = codes "profile" ∷ codes "budget" ∷ codes "date" ∷ codes "time" ∷ codes "search" ∷ codes "files" ∷ codes "units" ∷ []
@@ -76,6 +80,31 @@ pub data HasTexts (d : Data) (name : List ℕ) : List (List ℕ) → Type 0 wher
   no_texts : get name d ≡ None → HasTexts d name []
   some_texts : {texts : List (List ℕ)} → HasItems IsText d name texts → HasTexts d name texts
 
+-- the member of this name is a string of this text, or it is missing
+pub data MayHaveText (d : Data) (name : List ℕ) : Option (List ℕ) → Type 0 where
+  no_text : get name d ≡ None → MayHaveText d name None
+  some_text : {text : List ℕ} → HasText d name text → MayHaveText d name (Some text)
+
+-- the member of this name is true or false; it is false if it is missing
+pub data HasFlag (d : Data) (name : List ℕ) : Bool → Type 0 where
+  no_flag : get name d ≡ None → HasFlag d name false
+  some_flag : {flag : Bool} → get name d ≡ Some (boolean flag) → HasFlag d name flag
+
+-- a directory that is searched, or a file that is read first: its name alone, or an object
+pub data IsPathDraft : Data → DraftPath → Type 0 where
+  only_name : {name : List ℕ} → IsPathDraft (string name) (record { name = name; shown = None; system = false })
+  whole_object : {d : Data} {p : DraftPath}
+      → is_object_of path_members d ≡ true
+      → HasText d (codes "name") p.name
+      → MayHaveText d (codes "shown") p.shown
+      → HasFlag d (codes "system") p.system
+      → IsPathDraft d p
+
+-- the member of this name is an array of these, or it is missing and there are none
+pub data HasPaths (d : Data) (name : List ℕ) : List DraftPath → Type 0 where
+  no_paths : get name d ≡ None → HasPaths d name []
+  some_paths : {paths : List DraftPath} → HasItems IsPathDraft d name paths → HasPaths d name paths
+
 -- a file's content is in exactly one of `text` and `hex`; if lists hold no contents it is left out
 pub data HasContent : Bool → Data → List ℕ → Type 0 where
   as_text : {d : Data} {content : List ℕ}
@@ -116,8 +145,10 @@ pub record IsFileDraft (inline : Bool) (d : Data) (f : DraftFile) : Type 0 where
 pub record IsUnitDraft (d : Data) (u : DraftUnit) : Type 0 where
   pub object : is_object_of unit_members d ≡ true
   pub file : HasText d (codes "file") u.file
+  pub shown : MayHaveText d (codes "shown") u.shown
   pub defines : HasTexts d (codes "define") u.defines
-  pub directories : HasTexts d (codes "search") u.search
+  pub first : HasPaths d (codes "first") u.first
+  pub directories : HasPaths d (codes "search") u.search
 
 -- what all units share
 pub record IsSettingDraft (d : Data) (s : DraftSetting) : Type 0 where
@@ -125,7 +156,7 @@ pub record IsSettingDraft (d : Data) (s : DraftSetting) : Type 0 where
   pub budget : HasBudget d s.budget
   pub date : HasText d (codes "date") s.date
   pub time : HasText d (codes "time") s.time
-  pub directories : HasTexts d (codes "search") s.search
+  pub directories : HasPaths d (codes "search") s.search
 
 -- the list, with its contents if `inline`
 pub record IsDraft (inline : Bool) (d : Data) (x : Draft) : Type 0 where

@@ -2,6 +2,8 @@
 pub mod LinePrefix
 pub mod NeededRetention
 pub mod Printing
+pub mod TextPieces
+pub mod Segments
 pub mod Records
 pub mod Refusals
 pub mod Rounds

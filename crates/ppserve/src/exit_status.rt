@@ -46,6 +46,7 @@ fn refusal_words(number: u8) -> &'static str
         8 => "cppunits: list refused L8",
         9 => "cppunits: list refused L9",
         10 => "cppunits: list refused L10",
+        11 => "cppunits: list refused L11",
         _ => "cppunits: list refused",
     }
 }

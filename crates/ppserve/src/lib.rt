@@ -1,6 +1,7 @@
 //! Runs a list of translation units: from the bytes of the list to the bytes of its output.
 #![tactic(auto)]
 
+mod chain;
 mod exit_status;
 mod formatting;
 mod laws;
@@ -14,11 +15,12 @@ mod rounds;
 mod run_list;
 mod serving;
 mod streams;
+mod text_output;
 
 pub use exit_status::{status, words};
 pub use laws::{known_bytes_decide, one_output, refuses_by_the_least, shape_decides, some_output};
 pub use list::{List, ListFault, Units, read_list};
-pub use output::{Mode, deps, dump};
+pub use output::{Mode, deps, dump, faults, text};
 pub use pppool::{Block, Workers};
 pub use ppshelf::Contents;
 pub use run_list::{AtEnd, RunOptions};

@@ -81,10 +81,10 @@ pub(crate) const MAX_INPUT: usize = 268_435_456;
 ///
 /// `Bad` with the least number that applies: 1 for more than 268,435,456 bytes or invalid JSON, 2 for a member that is
 /// missing, unknown or of the wrong type, 3 for a file name that isn't in normal form or occurs twice, 4 for more than
-/// 65,535 files or units, or a content or a unit's definitions of more than 16,777,216 bytes, 5 for a unit's file that
-/// isn't among the names, 6 for a wrong date or time, 7 for a definition of more than one line, 8 for a search path
-/// that isn't a directory name, 9 for an unknown profile, 10 for a budget that isn't an integer from 0 to
-/// 4,294,967,295; and `Memory`.
+/// 65,535 files or units, or a content or a unit's definitions of more than 16,777,216 bytes, 5 for a unit's file, or one
+/// that is read first, that isn't among the names, 6 for a wrong date or time, 7 for a definition of more than one line, 8 for
+/// a search path that isn't a directory name, 9 for an unknown profile, 10 for a budget that isn't an integer from 0 to
+/// 4,294,967,295, 11 for a shown name with a control character, or of no byte or more than 4,096; and `Memory`.
 pub fn read_list(
     alloc: Global,
     bytes: &[u8],

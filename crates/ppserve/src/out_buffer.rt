@@ -1,8 +1,9 @@
 //! A 1 MiB output buffer.
-ghost use Rattle.std.specs.Prelude.{◌≡◌, ◌+◌, ◌≤◌, ◌++◌, ◌∷◌, [], codes, length, take, true, false, IfOk};
+ghost use Rattle.std.specs.Prelude.{◌≡◌, ◌+◌, ◌<◌, ◌≤◌, ◌++◌, ◌∷◌, [], codes, length, take, true, false, IfOk};
 ghost use Rattle.ppserve.specs.code.LinePrefix.{before_spelling, max_prefix};
 ghost use Rattle.ppserve.specs.Output.{percent_encoded};
 ghost use Rattle.ppserve.specs.code.Printing.{Puts, buffer_size, max_short, max_short_line};
+ghost use Rattle.ppserve.specs.code.TextPieces.{bar, token_bytes};
 
 use crate::formatting::{as_is_prefix, put_byte, put_prefix};
 use crate::line_prefix::{LastPrefixes, LineFields, MAX_PREFIX};
@@ -129,6 +130,33 @@ impl OutBuffer {
         true
     }
 
+    /// Appends what the text of a unit has for a token: `|` if it is the first of its line, spaces, and the spelling in
+    /// the first `len` bytes of `inline`. Returns false, without effect, if there are more than 16 spaces, if the token
+    /// begins with `\\`, since that alone is followed by a space, or if a byte of it can't be printed as it is: after a
+    /// new-line there is a `|`.
+    #[inline(always)]
+    pub(crate) fn add_short_token(
+        &mut self,
+        is_first: bool,
+        spaces: usize,
+        inline: &[u8; SHORT],
+        len: usize,
+    ) -> bool
+        requires capacity { length self.old + max_short_line ≤ buffer_size }
+        requires len { len ≤ max_short }
+        ensures added { result ≡ true → self.new ≡ self.old ++ token_bytes is_first spaces (take len inline.now) }
+        ensures refused { result ≡ false → self.new ≡ self.old }
+    {
+        if spaces > 16 || inline[0] == b'\\' || as_is_prefix(inline) < len {
+            return false;
+        }
+        let bytes = self.bytes.as_mut_slice();
+        let end = put_bar(bytes, self.filled, is_first);
+        let end = put_prefix(bytes, end, b"                ", spaces);
+        self.filled = put_prefix(bytes, end, inline, len);
+        true
+    }
+
     /// Appends bytes that fit.
     fn add(&mut self, bytes: &[u8])
         requires { length self.old + length bytes.now ≤ buffer_size }
@@ -154,6 +182,21 @@ impl OutBuffer {
     {
         write_out(writer, &self.bytes.as_slice()[..self.filled]);
         self.filled = 0;
+    }
+}
+
+/// Writes the `|` of a line that begins.
+#[inline(always)]
+fn put_bar(bytes: &mut [u8], end: usize, begins: bool) -> usize
+    requires { end < length bytes.old }
+    ensures text { take result bytes.new ≡ take end bytes.old ++ bar begins }
+    ensures end { end ≤ result }
+    ensures within { result ≤ end + 1 }
+{
+    if begins {
+        put_byte(bytes, end, b'|')
+    } else {
+        end
     }
 }
 

@@ -9,23 +9,26 @@ ghost use Rattle.std.specs.Prelude.{◌≡◌, ◌++◌, ◌∷◌, [], ◌<◌,
 ghost use Rattle.std.specs.Prelude.{IfOk, Some, codes, decimal, length, take, flat_map};
 ghost use Rattle.ppserve.specs.Output.{percent_encoded, percent_encoded_byte, prints_as_is, hex_digit, place_text, item_lines, pragma_token_line};
 ghost use Rattle.ppserve.specs.Output.{dep_line, fault_text, last_line, output_text, shows_items};
-ghost use Rattle.ppserve.specs.code.Records.{record_lines, first_line, last_lines, records_of_lines, remaining_records, output_bytes};
+ghost use Rattle.ppserve.specs.code.Records.{Alike, record_lines, first_line, last_lines, chain_lines, records_of_lines, remaining_records, output_bytes};
 ghost use Rattle.ppserve.specs.code.Printing.{Puts};
-ghost use Rattle.ppserve.specs.declared.output.Mode.TheVariants.{Dump, Deps};
+ghost use Rattle.ppserve.specs.declared.output.Mode.TheVariants.{Dump, Deps, Faults, Text};
 ghost use Rattle.ppmacro.specs.Substituting.{tokens_of};
 ghost use Rattle.ppexpand.specs.Slices.{slice_tokens};
 ghost use Rattle.ppshelf.specs.Names.{name_in};
 ghost use Rattle.ppunit.specs.declared.units.Item.TheVariants as item;
 ghost use Rattle.ppserve.specs.code.LinePrefix.{before_spelling, token_line};
 
+use crate::chain::put_chain;
 use crate::line_cursor::{LineCursor, Lines};
 use crate::line_prefix::LineFields;
 use crate::list::List;
 use crate::out_buffer::OutBuffer;
 use crate::streams::{Sink, VecSink};
+use crate::text_output::put_segment;
 use itoa::Buffer;
 use ppexpand::TokenSlice;
 use ppmacro::Hidden;
+use ppprint::SystemFiles;
 use ppshelf::FileName;
 use pptext::{Fault, Memory, Place, Spelling, Token};
 use ppunit::{Unit, UnitOut};
@@ -38,16 +41,31 @@ pub enum Mode {
     Dump,
     /// Dependencies and the fault.
     Deps,
+    /// The include chain of the fault, and the fault.
+    Faults,
+    /// The text that a compiler takes, dependencies and the fault.
+    Text,
 }
 
 impl Mode {
-    /// Returns whether this mode prints the units' items. All that differs between the modes follows from this match.
+    /// Returns whether this mode prints the units' items.
     pub(crate) fn shows_items(self) -> bool
         ensures { result ≡ shows_items self }
     {
         match self {
-            Mode::Dump => true,
-            Mode::Deps => false,
+            Mode::Dump | Mode::Text => true,
+            Mode::Deps | Mode::Faults => false,
+        }
+    }
+
+    /// Returns the number of tokens that a worker prints in a round: as many as nearly fill its buffer of this size.
+    /// The line of a token has about 35 bytes, and a token of a text about 8.
+    pub(crate) fn tokens_in(self, size: usize) -> usize
+        ensures { 40 ≤ size → 0 < result }
+    {
+        match self {
+            Mode::Dump | Mode::Deps | Mode::Faults => size / 40,
+            Mode::Text => size / 16,
         }
     }
 }
@@ -68,6 +86,24 @@ pub fn deps(alloc: Global, list: &List, outs: &[UnitOut]) -> Result<Vec<u8>, Mem
     ensures { IfOk result (λ text. text.items ≡ output_text Deps list.now outs.now) }
 {
     print_to_vec(alloc, Mode::Deps, list, outs)
+}
+
+/// Returns the output as text: for each unit a line with its name, the lines of the text that a compiler takes, each
+/// after a `|`, one line for each dependency, and one with its fault or `ok`. Fails only if an allocation fails.
+pub fn text(alloc: Global, list: &List, outs: &[UnitOut]) -> Result<Vec<u8>, Memory>
+    requires { length outs.now ≡ length list.now.units }
+    ensures { IfOk result (λ text. text.items ≡ output_text Text list.now outs.now) }
+{
+    print_to_vec(alloc, Mode::Text, list, outs)
+}
+
+/// Returns the output for faults: for each unit a line with its name, one for each include line of the chain of its fault,
+/// and one with its fault or `ok`. Fails only if an allocation fails.
+pub fn faults(alloc: Global, list: &List, outs: &[UnitOut]) -> Result<Vec<u8>, Memory>
+    requires { length outs.now ≡ length list.now.units }
+    ensures { IfOk result (λ text. text.items ≡ output_text Faults list.now outs.now) }
+{
+    print_to_vec(alloc, Mode::Faults, list, outs)
 }
 
 /// The output of units, in a mode.
@@ -93,7 +129,8 @@ fn print_to_vec(alloc: Global, mode: Mode, list: &List, outs: &[UnitOut]) -> Res
         units,
         outs,
     };
-    put_through(&mut buf, &mut text, output);
+    let mut cursor = LineCursor::new(alloc, output)?;
+    put_through(&mut buf, &mut text, names, &mut cursor);
     if text.failed() {
         return Err(Memory);
     }
@@ -105,24 +142,33 @@ fn print_to_vec(alloc: Global, mode: Mode, list: &List, outs: &[UnitOut]) -> Res
 ///
 /// The buffer and the writer are separate parameters. If one struct held both, this couldn't be proved: after the struct
 /// is dropped, the last value of a generic writer isn't known.
-pub(crate) fn put_through<W: Sink>(buf: &mut OutBuffer, writer: &mut W, output: Output)
+pub(crate) fn put_through<W: Sink>(
+    buf: &mut OutBuffer,
+    writer: &mut W,
+    names: &[FileName],
+    cursor: &mut LineCursor,
+)
     requires { buf.old ≡ [] }
-    ensures { Puts W.written W.has_failed writer.old writer.new [] [] (output_bytes output.entry) }
+    ensures { Puts W.written W.has_failed writer.old writer.new [] [] (flat_map (record_lines names.now) (remaining_records cursor.old)) }
 {
-    put_all(buf, writer, output);
+    put_all(buf, writer, names, cursor);
     buf.flush(writer);
 }
 
 /// Prints all lines. After a failed write nothing more is formatted or written.
-fn put_all<W: Sink>(buf: &mut OutBuffer, writer: &mut W, output: Output)
-    ensures { Puts W.written W.has_failed writer.old writer.new buf.old buf.new (output_bytes output.entry) }
+fn put_all<W: Sink>(
+    buf: &mut OutBuffer,
+    writer: &mut W,
+    names: &[FileName],
+    cursor: &mut LineCursor,
+)
+    ensures { Puts W.written W.has_failed writer.old writer.new buf.old buf.new (flat_map (record_lines names.now) (remaining_records cursor.old)) }
 {
-    let mut cursor = LineCursor::new(output);
     while let Some(lines) = cursor.next(usize::MAX) {
         if writer.failed() {
             return;
         }
-        put_lines(buf, writer, output.names, lines);
+        put_lines(buf, writer, names, cursor.systems(), lines);
     }
 }
 
@@ -134,8 +180,9 @@ pub(crate) fn put_next<W: Sink>(
     cursor: &mut LineCursor,
     count: usize,
 )
-    ensures { Puts W.written W.has_failed writer.old writer.new buf.old buf.new
+    ensures out { Puts W.written W.has_failed writer.old writer.new buf.old buf.new
         (flat_map (record_lines names.now) (take count (remaining_records cursor.old))) }
+    ensures alike { Alike cursor.new cursor.old }
 {
     let mut left = count;
     while left > 0 {
@@ -145,20 +192,30 @@ pub(crate) fn put_next<W: Sink>(
         if writer.failed() {
             return;
         }
-        put_lines(buf, writer, names, lines);
-        left -= lines.count();
+        let count = lines.count();
+        put_lines(buf, writer, names, cursor.systems(), lines);
+        left -= count;
     }
 }
 
 /// Prints consecutive lines.
-fn put_lines<W: Sink>(buf: &mut OutBuffer, writer: &mut W, names: &[FileName], lines: Lines)
-    ensures { Puts W.written W.has_failed writer.old writer.new buf.old buf.new (flat_map (record_lines names.now) (records_of_lines lines.entry)) }
+fn put_lines<W: Sink>(
+    buf: &mut OutBuffer,
+    writer: &mut W,
+    names: &[FileName],
+    systems: &SystemFiles,
+    lines: Lines,
+)
+    ensures { Puts W.written W.has_failed writer.old writer.new buf.old buf.new (flat_map (record_lines names.now) (records_of_lines systems.now lines.entry)) }
 {
     match lines {
         Lines::First(index, unit) => put_first(buf, writer, names, index, unit),
         Lines::Tokens(tokens) => put_tokens(buf, writer, tokens),
         Lines::Pragma(at, tokens) => put_pragma(buf, writer, at, tokens),
+        Lines::Mark(_) => {}
+        Lines::Segment(segment) => put_segment(buf, writer, systems, &segment),
         Lines::Last(out) => put_last(buf, writer, names, out),
+        Lines::Faulty(out) => put_faulty(buf, writer, out),
     }
 }
 
@@ -184,6 +241,14 @@ fn put_last<W: Sink>(buf: &mut OutBuffer, writer: &mut W, names: &[FileName], ou
     ensures { Puts W.written W.has_failed writer.old writer.new buf.old buf.new (last_lines names.now out.now) }
 {
     put_deps(buf, writer, names, out.deps.as_slice());
+    put_end(buf, writer, &out.fault);
+}
+
+/// Prints the last lines of a unit: its include chain, and its fault or `ok`.
+fn put_faulty<W: Sink>(buf: &mut OutBuffer, writer: &mut W, out: &UnitOut)
+    ensures { Puts W.written W.has_failed writer.old writer.new buf.old buf.new (chain_lines out.now) }
+{
+    put_chain(buf, writer, &out.items);
     put_end(buf, writer, &out.fault);
 }
 
@@ -366,7 +431,7 @@ fn put_fault_text<W: Sink>(buf: &mut OutBuffer, writer: &mut W, text: &[u8])
 }
 
 /// Prints a location.
-fn put_place<W: Sink>(buf: &mut OutBuffer, writer: &mut W, place: Place)
+pub(crate) fn put_place<W: Sink>(buf: &mut OutBuffer, writer: &mut W, place: Place)
     ensures { Puts W.written W.has_failed writer.old writer.new buf.old buf.new (place_text place) }
 {
     put_decimal(buf, writer, u64::from(place.file));
@@ -374,6 +439,14 @@ fn put_place<W: Sink>(buf: &mut OutBuffer, writer: &mut W, place: Place)
     put_decimal(buf, writer, u64::from(place.line));
     buf.put(writer, b":");
     put_decimal(buf, writer, u64::from(place.col));
+}
+
+/// Prints a number in decimal.
+pub(crate) fn put_wide_decimal<W: Sink>(buf: &mut OutBuffer, writer: &mut W, number: u128)
+    ensures { Puts W.written W.has_failed writer.old writer.new buf.old buf.new (decimal number) }
+{
+    let mut buffer = Buffer::new();
+    buf.put(writer, buffer.format(number).as_bytes());
 }
 
 /// Prints a number in decimal.

@@ -5,6 +5,7 @@ ghost use Rattle.ppserve.specs.code.Printing.{Puts};
 ghost use Rattle.ppserve.specs.code.Records.{output_bytes};
 ghost use Rattle.ppserve.specs.code.Runs.{Delivers, IsOutputOf};
 
+use crate::line_cursor::LineCursor;
 use crate::out_buffer::OutBuffer;
 use crate::output::{Output, put_through};
 use crate::rounds::{new_pages, put_in_rounds};
@@ -49,11 +50,13 @@ fn put_by_workers<T: Threads + Sync, W: Sink>(
     let count = workers.get();
     if count == 1 || !output.mode.shows_items() {
         let mut buf = OutBuffer::new(alloc)?;
-        put_through(&mut buf, writer, output);
+        let mut cursor = LineCursor::new(alloc, output)?;
+        put_through(&mut buf, writer, output.names, &mut cursor);
         return Ok(());
     }
     let mut pages = new_pages(alloc, output, count)?;
-    put_in_rounds(threads, pages.as_mut_slice(), writer, output);
+    let mut cursor = LineCursor::new(alloc, output)?;
+    put_in_rounds(threads, pages.as_mut_slice(), writer, output, &mut cursor);
     Ok(())
 }
 

@@ -6,9 +6,10 @@
 //! records are formatted again while they are written, and the next rounds give out fewer. All buffers are allocated
 //! before the first round, so that no allocation can fail once a byte was written.
 ghost use Rattle.std.specs.Prelude.{◌≡◌, ◌<◌, ◌++◌, [], All, IfOk, length, min, flat_map};
-ghost use Rattle.ppserve.specs.code.Records.{record_lines, remaining_records, output_bytes};
+ghost use Rattle.ppserve.specs.code.Records.{Alike, IsOver, record_lines, remaining_records};
+ghost use Rattle.ppserve.specs.declared.line_cursor.LineCursor.{LineCursor};
 ghost use Rattle.ppserve.specs.code.Printing.{Puts};
-ghost use Rattle.ppserve.specs.code.Rounds.{page_records, IsEmpty, IsFilled};
+ghost use Rattle.ppserve.specs.code.Rounds.{page_records, IsAlike, IsEmpty, IsFilled};
 
 use crate::line_cursor::LineCursor;
 use crate::out_buffer::{OutBuffer, SIZE};
@@ -18,12 +19,8 @@ use ppshelf::FileName;
 use std::alloc::{AllocError, Global};
 use std::thread::{Threads, for_each_mut};
 
-/// The number of records that a worker formats in a round: as many as nearly fill its buffer, since the line of a token
-/// has about 35 bytes.
-const MAX_RECORDS: usize = SIZE / 40;
-
-/// The least number of records that a worker formats in a round.
-const MIN_RECORDS: usize = 256;
+/// The least number of tokens that a worker formats in a round.
+const MIN_TOKENS: usize = 256;
 
 /// The largest number of pages. More gain nothing, because one thread writes them.
 const MAX_PAGES: usize = 16;
@@ -61,45 +58,53 @@ pub(crate) struct Page<'a> {
     buf: OutBuffer,
     sink: RefusingSink,
     start: LineCursor<'a>,
+    /// The position while the lines are formatted.
+    cursor: LineCursor<'a>,
+    /// The number of records.
     count: usize,
 }
 
 impl<'a> Page<'a> {
     /// Allocates an empty page.
     fn new(alloc: Global, output: Output<'a>) -> Result<Page<'a>, AllocError>
-        ensures { IfOk result (λ page. IsEmpty page) }
+        ensures empty { IfOk result (λ page. IsEmpty page) }
+        ensures over { IfOk result (λ page. IsOver output.entry page.start) }
     {
         Ok(Page {
             buf: OutBuffer::with_full_size(alloc)?,
             sink: RefusingSink { failed: false },
-            start: LineCursor::new(output),
+            start: LineCursor::new(alloc, output)?,
+            cursor: LineCursor::new(alloc, output)?,
             count: 0,
         })
     }
 
-    /// Assigns the next `count` records to the page, and moves the cursor over them.
-    fn assign(&mut self, cursor: &mut LineCursor<'a>, count: usize)
+    /// Assigns the next records to the page, with about this number of tokens, and moves the cursor over them.
+    fn assign(&mut self, cursor: &mut LineCursor<'a>, tokens: usize)
+        requires { Alike self.old.start cursor.old }
         ensures records { remaining_records cursor.old ≡ page_records self.new ++ remaining_records cursor.new }
-        ensures fewer { 0 < count → 0 < length (remaining_records cursor.old) → length (remaining_records cursor.new) < length (remaining_records cursor.old) }
+        ensures fewer { 0 < tokens → 0 < length (remaining_records cursor.old) → length (remaining_records cursor.new) < length (remaining_records cursor.old) }
         ensures empty { IsEmpty self.old → IsEmpty self.new }
+        ensures start { Alike self.new.start self.old.start }
+        ensures alike { Alike cursor.new cursor.old }
     {
-        self.start = cursor.duplicate();
-        self.count = count;
-        cursor.skip(count);
+        self.start.move_to(cursor);
+        self.count = cursor.skip(tokens);
     }
 
     /// Puts the lines of the page's records into its buffer, as far as they fit.
     fn fill(&mut self, names: &[FileName])
         requires { IsEmpty self.old }
         ensures records { page_records self.new ≡ page_records self.old }
+        ensures start { self.new.start ≡ self.old.start }
         ensures filled { IsFilled names.now self.new }
     {
-        let mut cursor = self.start.duplicate();
+        self.cursor.move_to(&self.start);
         put_next(
             &mut self.buf,
             &mut self.sink,
             names,
-            &mut cursor,
+            &mut self.cursor,
             self.count,
         );
     }
@@ -110,13 +115,14 @@ impl<'a> Page<'a> {
         requires { IsFilled names.now self.old }
         ensures out { Puts W.written W.has_failed writer.old writer.new [] [] (flat_map (record_lines names.now) (page_records self.old)) }
         ensures empty { IsEmpty self.new }
+        ensures start { self.new.start ≡ self.old.start }
     {
         let fits = !self.sink.failed;
         if !fits {
             self.buf.clear();
             self.sink.failed = false;
-            let mut cursor = self.start.duplicate();
-            put_next(&mut self.buf, writer, names, &mut cursor, self.count);
+            self.cursor.move_to(&self.start);
+            put_next(&mut self.buf, writer, names, &mut self.cursor, self.count);
         }
         self.buf.flush(writer);
         fits
@@ -131,6 +137,7 @@ pub(crate) fn new_pages<'a>(
 ) -> Result<Vec<Page<'a>>, AllocError>
     ensures count { IfOk result (λ pages. length pages.items ≡ min workers 16) }
     ensures empty { IfOk result (λ pages. All IsEmpty pages.items) }
+    ensures over { IfOk result (λ pages. All (λ page. IsOver output.entry page.start) pages.items) }
 {
     let count = workers.min(MAX_PAGES);
     let mut pages = Vec::with_capacity(alloc, count)?;
@@ -140,16 +147,19 @@ pub(crate) fn new_pages<'a>(
     Ok(pages)
 }
 
-/// Assigns the next records to pages, `count` to each.
-fn assign_all<'a>(pages: &mut [Page<'a>], cursor: &mut LineCursor<'a>, count: usize)
+/// Assigns the next records to pages, with about this number of tokens to each.
+fn assign_all<'a>(pages: &mut [Page<'a>], cursor: &mut LineCursor<'a>, tokens: usize)
     requires pages { 0 < length pages.old }
-    requires count { 0 < count }
+    requires tokens { 0 < tokens }
+    requires alike { All (IsAlike cursor.old) pages.old }
     ensures records { remaining_records cursor.old ≡ flat_map page_records pages.new ++ remaining_records cursor.new }
     ensures fewer { 0 < length (remaining_records cursor.old) → length (remaining_records cursor.new) < length (remaining_records cursor.old) }
     ensures empty { All IsEmpty pages.old → All IsEmpty pages.new }
+    ensures alike { All (IsAlike cursor.old) pages.new }
+    ensures cursor { Alike cursor.new cursor.old }
 {
     for page in pages.iter_mut() {
-        page.assign(cursor, count);
+        page.assign(cursor, tokens);
     }
 }
 
@@ -158,6 +168,7 @@ fn write_all<W: Sink>(pages: &mut [Page], writer: &mut W, names: &[FileName]) ->
     requires { All (IsFilled names.now) pages.old }
     ensures out { Puts W.written W.has_failed writer.old writer.new [] [] (flat_map (record_lines names.now) (flat_map page_records pages.old)) }
     ensures empty { All IsEmpty pages.new }
+    ensures alike { (c : LineCursor) → All (IsAlike c) pages.old → All (IsAlike c) pages.new }
 {
     let mut all_fit = true;
     for page in pages.iter_mut() {
@@ -174,10 +185,11 @@ fn fill_all<T: Threads + Sync>(threads: &T, pages: &mut [Page], names: &[FileNam
     requires empty { All IsEmpty pages.old }
     ensures records { flat_map page_records pages.new ≡ flat_map page_records pages.old }
     ensures filled { All (IsFilled names.now) pages.new }
+    ensures alike { (c : LineCursor) → All (IsAlike c) pages.old → All (IsAlike c) pages.new }
 {
     let fill = |_index: usize, page: &mut Page|
         requires { IsEmpty page.now }
-        ensures { (page_records page.exit.now ≡ page_records page.entry.now) × IsFilled names.entry.now page.exit.now }
+        ensures { (page_records page.exit.now ≡ page_records page.entry.now) × (page.exit.now.start ≡ page.entry.now.start) × IsFilled names.entry.now page.exit.now }
     { page.fill(names) };
     let count = pages.len();
     for_each_mut(threads, pages, count, &fill);
@@ -190,21 +202,22 @@ pub(crate) fn put_in_rounds<'a, T: Threads + Sync, W: Sink>(
     pages: &mut [Page<'a>],
     writer: &mut W,
     output: Output<'a>,
+    cursor: &mut LineCursor<'a>,
 )
     requires pages { 0 < length pages.old }
     requires empty { All IsEmpty pages.old }
-    ensures { Puts W.written W.has_failed writer.old writer.new [] [] (output_bytes output.entry) }
+    requires alike { All (IsAlike cursor.old) pages.old }
+    ensures { Puts W.written W.has_failed writer.old writer.new [] [] (flat_map (record_lines output.entry.names.now) (remaining_records cursor.old)) }
 {
-    let mut cursor = LineCursor::new(output);
-    let mut count = MAX_RECORDS;
+    let mut tokens = output.mode.tokens_in(SIZE);
     while !cursor.is_at_end() {
         if writer.failed() {
             return;
         }
-        assign_all(pages, &mut cursor, count);
+        assign_all(pages, cursor, tokens);
         fill_all(threads, pages, output.names);
         if !write_all(pages, writer, output.names) {
-            count = (count / 2).max(MIN_RECORDS);
+            tokens = (tokens / 2).max(MIN_TOKENS);
         }
     }
 }

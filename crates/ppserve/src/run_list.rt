@@ -67,10 +67,9 @@ impl AtEnd {
 fn needed_retention(mode: Mode) -> Retain
     ensures { result ≡ needed_retention mode }
 {
-    if mode.shows_items() {
-        Retain::Everything
-    } else {
-        Retain::WithoutItems
+    match mode {
+        Mode::Dump | Mode::Faults | Mode::Text => Retain::Everything,
+        Mode::Deps => Retain::WithoutItems,
     }
 }
 

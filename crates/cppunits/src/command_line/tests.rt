@@ -12,6 +12,7 @@ type Asked = (&'static [&'static str], Mode, usize, usize, &'static str);
 const ASKED: &[Asked] = &[
     (&["cppunits", "dump"], Mode::Dump, 4, 8, ""),
     (&["cppunits", "deps"], Mode::Deps, 4, 8, ""),
+    (&["cppunits", "faults"], Mode::Faults, 4, 8, ""),
     (
         &["cppunits", "--workers", "3", "dump"],
         Mode::Dump,

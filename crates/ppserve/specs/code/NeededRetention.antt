@@ -1,10 +1,12 @@
 -- What must be kept of units' outputs to print them.
-use Rattle.std.specs.Prelude.{if◌then◌else◌}
 use Rattle.pppool.specs.declared.retention.Retain.{Retain}
 use Rattle.pppool.specs.declared.retention.Retain.TheVariants.{Everything, WithoutItems}
 use Rattle.ppserve.specs.declared.output.Mode.{Mode}
-use Rattle.ppserve.specs.Output.{shows_items}
+use Rattle.ppserve.specs.declared.output.Mode.TheVariants.{Dump, Deps, Faults, Text}
 
--- a mode that prints no items needs none
+-- dependencies need no items; the include chain is found by the marks among them
 abbrev pub needed_retention : Mode → Retain
-needed_retention mode = if shows_items mode then Everything else WithoutItems
+needed_retention Dump = Everything
+needed_retention Deps = WithoutItems
+needed_retention Faults = Everything
+needed_retention Text = Everything

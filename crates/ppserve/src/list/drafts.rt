@@ -34,12 +34,33 @@ impl Model for DraftFile {
     ghost view = { λ f. record { name = f.name; content = f.content } };
 }
 
+/// The draft of a directory that is searched, or of a file that is read first.
+#[derive(Drop)]
+pub(super) struct DraftPath {
+    pub(super) name: OwnedText,
+    pub(super) shown: Option<OwnedText>,
+    pub(super) system: bool,
+}
+
+impl Model for DraftPath {
+    ghost use Rattle.ppserve.specs.Drafts.{DraftPath};
+
+    ghost Value = { DraftPath };
+
+    ghost view = { λ p. record { name = p.name; shown = p.shown; system = p.system } };
+}
+
+/// The drafts of directories, or of files that are read first.
+pub(super) type DraftPaths = Sequence<DraftPath>;
+
 /// The draft of a unit, with the name of its file.
 #[derive(Drop)]
 pub(super) struct DraftUnit {
     pub(super) file: OwnedText,
+    pub(super) shown: Option<OwnedText>,
     pub(super) defines: OwnedTexts,
-    pub(super) search: OwnedTexts,
+    pub(super) first: DraftPaths,
+    pub(super) search: DraftPaths,
 }
 
 impl Model for DraftUnit {
@@ -47,7 +68,13 @@ impl Model for DraftUnit {
 
     ghost Value = { DraftUnit };
 
-    ghost view = { λ u. record { file = u.file; defines = u.defines; search = u.search } };
+    ghost view = { λ u. record {
+      file = u.file;
+      shown = u.shown;
+      defines = u.defines;
+      first = u.first;
+      search = u.search;
+    } };
 }
 
 /// How a list's budget is written.
@@ -83,7 +110,7 @@ pub(super) struct DraftSetting {
     pub(super) budget: DraftBudget,
     pub(super) date: OwnedText,
     pub(super) time: OwnedText,
-    pub(super) search: OwnedTexts,
+    pub(super) search: DraftPaths,
 }
 
 impl Model for DraftSetting {
@@ -152,7 +179,7 @@ fn setting_of(alloc: Global, value: &Value) -> Result<DraftSetting, ListFault>
     let budget = budget_at(value)?;
     let date = text_at(alloc, value, "date")?;
     let time = text_at(alloc, value, "time")?;
-    let search = texts_at(alloc, value, "search")?;
+    let search = paths_at(alloc, value, "search")?;
     Ok(DraftSetting {
         profile,
         budget,
@@ -323,17 +350,118 @@ fn unit_from(alloc: Global, value: &Value) -> Result<DraftUnit, ListFault>
     ensures ok { IfOk result (λ u. drafting.draft_unit (view value.now) ≡ Some u) }
     ensures err { IfErr result (RefusedFor 2 (drafting.draft_unit (view value.now) ≡ None)) }
 {
-    if !is_object_of(value, &["file", "define", "search"]) {
+    if !is_object_of(value, &["file", "shown", "define", "first", "search"]) {
         return Err(ListFault::Bad(2));
     }
     let file = text_at(alloc, value, "file")?;
+    let shown = optional_text_at(alloc, value, "shown")?;
     let defines = texts_at(alloc, value, "define")?;
-    let search = texts_at(alloc, value, "search")?;
+    let first = paths_at(alloc, value, "first")?;
+    let search = paths_at(alloc, value, "search")?;
     Ok(DraftUnit {
         file,
+        shown,
         defines,
+        first,
         search,
     })
+}
+
+/// Reads a member that is an array of directories, or of files that are read first. It is empty if the member is missing.
+fn paths_at(alloc: Global, value: &Value, name: &str) -> Result<DraftPaths, ListFault>
+    ensures ok { IfOk result (λ ps. drafting.paths_at name.now (view value.now) ≡ Some ps) }
+    ensures err { IfErr result (RefusedFor 2 (drafting.paths_at name.now (view value.now) ≡ None)) }
+{
+    match value.get(name) {
+        Some(array) => paths_of(alloc, array),
+        None => Ok(DraftPaths::new(Vec::new(alloc))),
+    }
+}
+
+/// Reads an array of directories, or of files that are read first.
+fn paths_of(alloc: Global, array: &Value) -> Result<DraftPaths, ListFault>
+    ensures ok { IfOk result (λ ps. drafting.each_of drafting.draft_path (view array.now) ≡ Some ps) }
+    ensures err { IfErr result (RefusedFor 2 (drafting.each_of drafting.draft_path (view array.now) ≡ None)) }
+{
+    let Some(items) = array.as_array() else {
+        return Err(ListFault::Bad(2));
+    };
+    paths_from(alloc, items.as_slice())
+}
+
+/// Reads directories, or files that are read first.
+fn paths_from(alloc: Global, items: &[Value]) -> Result<DraftPaths, ListFault>
+    ensures ok { IfOk result (λ ps. drafting.each_item drafting.draft_path (items_view items.now) ≡ Some ps) }
+    ensures err { IfErr result (RefusedFor 2 (drafting.each_item drafting.draft_path (items_view items.now) ≡ None)) }
+{
+    let mut paths = Vec::new(alloc);
+    for item in items {
+        paths.push(path_from(alloc, item)?)?;
+    }
+    Ok(DraftPaths::new(paths))
+}
+
+/// Reads a directory, or a file that is read first: its name, or an object.
+fn path_from(alloc: Global, value: &Value) -> Result<DraftPath, ListFault>
+    ensures ok { IfOk result (λ p. drafting.draft_path (view value.now) ≡ Some p) }
+    ensures err { IfErr result (RefusedFor 2 (drafting.draft_path (view value.now) ≡ None)) }
+{
+    let Some(name) = value.as_str() else {
+        return path_of_object(alloc, value);
+    };
+    Ok(DraftPath {
+        name: OwnedText::new(String::from_str(alloc, name)?),
+        shown: None,
+        system: false,
+    })
+}
+
+/// Reads a directory, or a file that is read first, from an object.
+fn path_of_object(alloc: Global, value: &Value) -> Result<DraftPath, ListFault>
+    ensures ok { IfOk result (λ p. drafting.path_of_object (view value.now) ≡ Some p) }
+    ensures err { IfErr result (RefusedFor 2 (drafting.path_of_object (view value.now) ≡ None)) }
+{
+    if !is_object_of(value, &["name", "shown", "system"]) {
+        return Err(ListFault::Bad(2));
+    }
+    let name = text_at(alloc, value, "name")?;
+    let shown = optional_text_at(alloc, value, "shown")?;
+    let system = flag_at(value, "system")?;
+    Ok(DraftPath {
+        name,
+        shown,
+        system,
+    })
+}
+
+/// Reads a member that is a string, if there is one.
+fn optional_text_at(
+    alloc: Global,
+    value: &Value,
+    name: &str,
+) -> Result<Option<OwnedText>, ListFault>
+    ensures ok { IfOk result (λ t. drafting.optional_text_at name.now (view value.now) ≡ Some t) }
+    ensures err { IfErr result (RefusedFor 2 (drafting.optional_text_at name.now (view value.now) ≡ None)) }
+{
+    let Some(member) = value.get(name) else {
+        return Ok(None);
+    };
+    let text = text_of(member)?;
+    Ok(Some(OwnedText::new(String::from_str(alloc, text)?)))
+}
+
+/// Reads a member that is true or false. It is false if the member is missing.
+fn flag_at(value: &Value, name: &str) -> Result<bool, ListFault>
+    ensures ok { IfOk result (λ f. drafting.flag_at name.now (view value.now) ≡ Some f) }
+    ensures err { IfErr result (RefusedFor 2 (drafting.flag_at name.now (view value.now) ≡ None)) }
+{
+    let Some(member) = value.get(name) else {
+        return Ok(false);
+    };
+    match member.as_bool() {
+        Some(flag) => Ok(flag),
+        None => Err(ListFault::Bad(2)),
+    }
 }
 
 /// Reads a member that is a string.

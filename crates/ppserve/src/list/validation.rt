@@ -16,12 +16,15 @@ ghost use Rattle.ppserve.specs.Listing as spec;
 ghost use Rattle.ppserve.specs.Listing.{validated, validated_texts, validated_choices, accepted, refused};
 ghost use Rattle.ppserve.specs.declared.list.ListFault.TheVariants.{Bad, Memory as OutOfMemory};
 
-use crate::list::drafts::{Draft, DraftBudget, DraftFile, DraftSetting, DraftUnit, WrittenBudget};
+use crate::list::drafts::{
+    Draft, DraftBudget, DraftFile, DraftPath, DraftPaths, DraftSetting, DraftUnit, WrittenBudget,
+};
 use crate::list::{List, ListFault, Units};
 use ppshelf::{Contents, FileNames, LONGEST, MAX_ROWS, is_directory};
 use pptext::{Hashing, Memory, Profile, Sequence};
 use ppunit::{
-    CommandMacros, OwnedTexts, Setting, Unit, fits_command, is_date, is_one_line, is_time,
+    CommandMacros, FirstFile, OwnedText, OwnedTexts, Setting, ShownDirectories, ShownDirectory,
+    Unit, fits_command, is_date, is_one_line, is_time,
 };
 use std::alloc::{AllocError, Global};
 
@@ -32,9 +35,9 @@ const MAX_BUDGET: u64 = 4_294_967_295;
 ///
 /// # Errors
 ///
-/// `Bad` with the least number that applies: 3 for a file name, 4 for a number or a size, 5 for the file of a unit, 6
-/// for the date or the time, 7 for a definition, 8 for a directory, 9 for the profile and 10 for the budget; and
-/// `Memory`.
+/// `Bad` with the least number that applies: 3 for a file name, 4 for a number or a size, 5 for the files of a unit, 6
+/// for the date or the time, 7 for a definition, 8 for a directory, 9 for the profile, 10 for the budget and 11 for a shown
+/// name; and `Memory`.
 pub(super) fn validate(
     alloc: Global,
     draft: Draft,
@@ -55,15 +58,12 @@ pub(super) fn validate(
 struct Findings {
     /// The names of the files.
     names: FileNames,
-    /// The rows of the units' files.
-    rows: Vec<usize>,
     profile: Profile,
 }
 
 /// Returns what the checks of a draft find, unless the draft is refused.
 fn findings_of(alloc: Global, draft: &Draft, hashing: Hashing) -> Result<Findings, ListFault>
     ensures names { IfOk result (λ f. f.names.names ≡ spec.names_of draft.now.files) }
-    ensures rows { IfOk result (λ f. f.rows.items ≡ map (spec.file_row (spec.names_of draft.now.files)) draft.now.units) }
     ensures profile { IfOk result (λ f. f.profile ≡ spec.profile_of draft.now.setting) }
     ensures fits { OnOk result (spec.commands_fit draft.now.units ≡ true) }
     ensures ok { OnOk result ((inline : Bool) → validated inline draft.now ≡ accepted (spec.listed inline draft.now)) }
@@ -73,13 +73,11 @@ fn findings_of(alloc: Global, draft: &Draft, hashing: Hashing) -> Result<Finding
     if !sizes_hold(draft) {
         return Err(ListFault::Bad(4));
     }
-    let rows = file_rows(alloc, &names, draft.units.as_slice())?;
+    if !are_known(&names, draft.units.as_slice()) {
+        return Err(ListFault::Bad(5));
+    }
     match profile_if_texts_valid(draft) {
-        Ok(profile) => Ok(Findings {
-            names,
-            rows,
-            profile,
-        }),
+        Ok(profile) => Ok(Findings { names, profile }),
         Err(number) => Err(ListFault::Bad(number)),
     }
 }
@@ -103,7 +101,7 @@ fn profile_if_texts_valid(draft: &Draft) -> Result<Profile, u8>
     profile_if_choices_valid(draft)
 }
 
-/// Returns the profile of a draft with valid texts, or the number of its refusal. Checks the profile and the budget.
+/// Returns the profile of a draft with valid texts, or the number of its refusal. Checks the profile, the budget and shown names.
 fn profile_if_choices_valid(draft: &Draft) -> Result<Profile, u8>
     ensures profile { IfOk result (λ p. p ≡ spec.profile_of draft.now.setting) }
     ensures ok { OnOk result ((inline : Bool) → validated_choices inline draft.now ≡ accepted (spec.listed inline draft.now)) }
@@ -114,6 +112,9 @@ fn profile_if_choices_valid(draft: &Draft) -> Result<Profile, u8>
     };
     if !is_budget(&draft.setting.budget) {
         return Err(10);
+    }
+    if !shown_hold(draft) {
+        return Err(11);
     }
     Ok(profile)
 }
@@ -139,24 +140,45 @@ fn index_files(alloc: Global, files: &[DraftFile], hashing: Hashing) -> Result<F
     Ok(index)
 }
 
-/// Returns the row of each unit's file.
-///
-/// # Errors
-///
-/// `Bad(5)` if a unit's file isn't among the names, and `Memory`.
-fn file_rows(alloc: Global, index: &FileNames, units: &[DraftUnit]) -> Result<Vec<usize>, ListFault>
-    ensures rows { IfOk result (λ rows. rows.items ≡ map (spec.file_row index.now.names) units.now) }
-    ensures known { OnOk result (spec.are_known index.now.names units.now ≡ true) }
-    ensures err { IfErr result (RefusedFor 5 (spec.are_known index.now.names units.now ≡ false)) }
+/// Returns whether each unit's file, and those that are read first, are among the names.
+fn are_known(names: &FileNames, units: &[DraftUnit]) -> bool
+    ensures { result ≡ spec.are_known names.now.names units.now }
 {
-    let mut rows = Vec::new(alloc);
-    for unit in units {
-        let Some(row) = index.row_of(unit.file.as_str().as_bytes()) else {
-            return Err(ListFault::Bad(5));
-        };
-        rows.push(row)?;
+    units.iter().all(|unit| unit_is_known(names, unit))
+}
+
+/// Returns whether a unit's file, and those that are read first, are among the names.
+fn unit_is_known(names: &FileNames, unit: &DraftUnit) -> bool
+    ensures { result ≡ spec.unit_is_known names.now.names unit.now }
+{
+    is_known(names, &unit.file) && paths_are_known(names, &unit.first)
+}
+
+/// Returns whether the names of all paths are among the names.
+fn paths_are_known(names: &FileNames, paths: &DraftPaths) -> bool
+    ensures { result ≡ spec.paths_are_known names.now.names paths.now }
+{
+    paths
+        .as_slice()
+        .iter()
+        .all(|path| is_known(names, &path.name))
+}
+
+/// Returns whether the text is one of the names.
+fn is_known(names: &FileNames, text: &OwnedText) -> bool
+    ensures { result ≡ spec.is_known names.now.names text.now }
+{
+    names.row_of(text.as_str().as_bytes()).is_some()
+}
+
+/// Returns the row of a name, or 0 if there is none.
+fn row_of(names: &FileNames, text: &OwnedText) -> usize
+    ensures { result ≡ spec.row_of names.now.names text.now }
+{
+    match names.row_of(text.as_str().as_bytes()) {
+        Some(row) => row,
+        None => 0,
     }
-    Ok(rows)
 }
 
 /// Returns whether there are at most 65,535 files and units, and no content or definitions are too large.
@@ -228,7 +250,6 @@ fn budget_of(budget: DraftBudget) -> Option<u64>
 /// profile.
 fn listed(alloc: Global, draft: Draft, findings: Findings, inline: bool) -> Result<List, ListFault>
     requires names { findings.names.names ≡ spec.names_of draft.files }
-    requires rows { findings.rows.items ≡ map (spec.file_row (spec.names_of draft.files)) draft.units }
     requires profile { findings.profile ≡ spec.profile_of draft.setting }
     requires fits { spec.commands_fit draft.units ≡ true }
     ensures ok { IfOk result (λ l. l ≡ spec.listed inline draft) }
@@ -239,15 +260,11 @@ fn listed(alloc: Global, draft: Draft, findings: Findings, inline: bool) -> Resu
         files,
         units,
     } = draft;
-    let Findings {
-        names,
-        rows,
-        profile,
-    } = findings;
-    let units = listed_units(alloc, rows.as_slice(), profile, names.hashing(), units)?;
+    let Findings { names, profile } = findings;
+    let units = listed_units(alloc, &names, profile, units)?;
     let contents = listed_contents(alloc, files, inline)?;
     Ok(List {
-        setting: listed_setting(setting, profile),
+        setting: listed_setting(alloc, setting, profile)?,
         names,
         contents,
         units,
@@ -255,9 +272,13 @@ fn listed(alloc: Global, draft: Draft, findings: Findings, inline: bool) -> Resu
 }
 
 /// Builds the setting of a valid draft.
-fn listed_setting(draft: DraftSetting, profile: Profile) -> Setting
+fn listed_setting(
+    alloc: Global,
+    draft: DraftSetting,
+    profile: Profile,
+) -> Result<Setting, AllocError>
     requires { profile ≡ spec.profile_of draft }
-    ensures { result ≡ spec.listed_setting draft }
+    ensures { IfOk result (λ s. s ≡ spec.listed_setting draft) }
 {
     let DraftSetting {
         profile: _,
@@ -266,31 +287,30 @@ fn listed_setting(draft: DraftSetting, profile: Profile) -> Setting
         time,
         search,
     } = draft;
-    Setting {
+    let search_shown = shown_directories(alloc, search.as_slice())?;
+    Ok(Setting {
         profile,
         date,
         time,
-        search,
+        search: path_names(alloc, search)?,
+        search_shown,
         budget: budget_of(budget),
-    }
+    })
 }
 
-/// Builds the units of a valid draft, whose files have these rows.
+/// Builds the units of a valid draft, whose files have these names.
 fn listed_units(
     alloc: Global,
-    rows: &[usize],
+    names: &FileNames,
     profile: Profile,
-    hashing: Hashing,
     units: Sequence<DraftUnit>,
 ) -> Result<Units, Memory>
-    requires rows { length rows.now ≡ length units }
     requires fits { spec.commands_fit units ≡ true }
-    ensures { (names : ListOf (ListOf ℕ)) → rows.now ≡ map (spec.file_row names) units → IfOk result (λ us. us ≡ map (spec.listed_unit profile names) units) }
+    ensures { IfOk result (λ us. us ≡ map (spec.listed_unit profile names.now.names) units) }
 {
     let mut listed = Vec::new(alloc);
     for unit in units.into_vec() {
-        let row = rows[listed.len()];
-        let unit = listed_unit(alloc, row, profile, hashing, listed.last(), unit)?;
+        let unit = listed_unit(alloc, names, profile, listed.last(), unit)?;
         let Ok(()) = listed.push(unit) else {
             return Err(Memory);
         };
@@ -301,29 +321,99 @@ fn listed_units(
 /// Builds a unit of a valid draft.
 fn listed_unit(
     alloc: Global,
-    row: usize,
+    names: &FileNames,
     profile: Profile,
-    hashing: Hashing,
     before: Option<&Unit>,
     unit: DraftUnit,
 ) -> Result<Unit, Memory>
     requires { length (command_text unit.defines) ≤ longest }
-    ensures { IfOk result (λ u. u ≡ spec.unit_in profile row unit) }
+    ensures { IfOk result (λ u. u ≡ spec.listed_unit profile names.now.names unit) }
 {
     let DraftUnit {
-        file: _,
+        file,
+        shown,
         defines,
+        first,
         search,
     } = unit;
     let before = match before {
         Some(unit) => Some(&unit.defines),
         None => None,
     };
+    let search_shown = shown_directories(alloc, search.as_slice())?;
     Ok(Unit {
-        file: row,
-        defines: CommandMacros::read(alloc, before, defines, profile, hashing)?,
-        search,
+        file: row_of(names, &file),
+        shown,
+        defines: CommandMacros::read(alloc, before, defines, profile, names.hashing())?,
+        first: listed_first(alloc, names, first)?,
+        search: path_names(alloc, search)?,
+        search_shown,
     })
+}
+
+/// Builds the files of a unit that are read first.
+fn listed_first(
+    alloc: Global,
+    names: &FileNames,
+    files: DraftPaths,
+) -> Result<Sequence<FirstFile>, AllocError>
+    ensures { IfOk result (λ fs. fs ≡ spec.listed_first names.now.names files) }
+{
+    let mut first = Vec::new(alloc);
+    for path in files.into_vec() {
+        let file = row_of(names, &path.name);
+        let DraftPath {
+            name: _,
+            shown,
+            system,
+        } = path;
+        first.push(FirstFile {
+            file,
+            shown,
+            system,
+        })?;
+    }
+    Ok(Sequence::new(first))
+}
+
+/// Returns how directories are shown.
+fn shown_directories(alloc: Global, paths: &[DraftPath]) -> Result<ShownDirectories, AllocError>
+    ensures { IfOk result (λ ds. ds ≡ spec.shown_directories paths.now) }
+{
+    let mut directories = Vec::new(alloc);
+    for path in paths {
+        directories.push(ShownDirectory {
+            shown: copy_text(alloc, &path.shown)?,
+            system: path.system,
+        })?;
+    }
+    Ok(ShownDirectories::new(directories))
+}
+
+/// Copies a text, if there is one.
+fn copy_text(alloc: Global, text: &Option<OwnedText>) -> Result<Option<OwnedText>, AllocError>
+    ensures { IfOk result (λ t. t ≡ text.now) }
+{
+    match text {
+        Some(text) => Ok(Some(OwnedText::new(String::from_str(alloc, text.as_str())?))),
+        None => Ok(None),
+    }
+}
+
+/// Returns the names of directories.
+fn path_names(alloc: Global, paths: DraftPaths) -> Result<OwnedTexts, AllocError>
+    ensures { IfOk result (λ ns. ns ≡ spec.path_names paths) }
+{
+    let mut names = Vec::new(alloc);
+    for path in paths.into_vec() {
+        let DraftPath {
+            name,
+            shown: _,
+            system: _,
+        } = path;
+        names.push(name)?;
+    }
+    Ok(OwnedTexts::new(names))
 }
 
 /// Returns the contents of the files if the list holds them.
@@ -378,17 +468,82 @@ fn directories_hold(draft: &Draft) -> bool
 
 /// Returns whether the search paths of all units are directory names.
 fn units_search_directories(units: &[DraftUnit]) -> bool
-    ensures { result ≡ list_all (λ u. list_all shelf_spec.is_directory u.search) units.now }
+    ensures { result ≡ list_all (λ u. spec.are_directories u.search) units.now }
 {
     units.iter().all(|unit| are_directories(&unit.search))
 }
 
-/// Returns whether all texts are directory names.
-fn are_directories(texts: &OwnedTexts) -> bool
-    ensures { result ≡ list_all shelf_spec.is_directory texts.now }
+/// Returns whether all names are directory names.
+fn are_directories(paths: &DraftPaths) -> bool
+    ensures { result ≡ spec.are_directories paths.now }
 {
-    texts
+    paths
         .as_slice()
         .iter()
-        .all(|text| is_directory(text.as_str().as_bytes()))
+        .all(|path| is_directory(path.name.as_str().as_bytes()))
+}
+
+/// The largest number of bytes in a shown name.
+const LONGEST_SHOWN: usize = 4_096;
+
+/// Returns whether each shown name is one.
+fn shown_hold(draft: &Draft) -> bool
+    ensures { result ≡ spec.shown_hold draft.now }
+{
+    are_shown(&draft.setting.search) && units_are_shown(draft.units.as_slice())
+}
+
+/// Returns whether each shown name of the units is one.
+fn units_are_shown(units: &[DraftUnit]) -> bool
+    ensures { result ≡ list_all spec.unit_is_shown units.now }
+{
+    units.iter().all(|unit| unit_is_shown(unit))
+}
+
+/// Returns whether each shown name of the unit is one.
+fn unit_is_shown(unit: &DraftUnit) -> bool
+    ensures { result ≡ spec.unit_is_shown unit.now }
+{
+    is_shown_if_any(&unit.shown) && are_shown(&unit.first) && are_shown(&unit.search)
+}
+
+/// Returns whether each shown name of the paths is one.
+fn are_shown(paths: &DraftPaths) -> bool
+    ensures { result ≡ spec.are_shown paths.now }
+{
+    paths
+        .as_slice()
+        .iter()
+        .all(|path| is_shown_if_any(&path.shown))
+}
+
+/// Returns whether the text, if there is one, is a shown name.
+fn is_shown_if_any(text: &Option<OwnedText>) -> bool
+    ensures { result ≡ spec.is_shown_if_any text.now }
+{
+    match text {
+        Some(text) => is_shown(text.as_str().as_bytes()),
+        None => true,
+    }
+}
+
+/// Returns whether the text is a shown name: 1 to 4,096 bytes, none of which is a control character of ASCII.
+fn is_shown(text: &[u8]) -> bool
+    ensures { result ≡ spec.is_shown text.now }
+{
+    text.len() >= 1 && text.len() <= LONGEST_SHOWN && has_no_control(text)
+}
+
+/// Returns whether the text has no control character of ASCII.
+fn has_no_control(text: &[u8]) -> bool
+    ensures { result ≡ list_all shelf_spec.is_name_byte text.now }
+{
+    text.iter().all(|byte| is_no_control(*byte))
+}
+
+/// Returns whether the byte is no control character of ASCII.
+fn is_no_control(byte: u8) -> bool
+    ensures { result ≡ shelf_spec.is_name_byte byte }
+{
+    byte >= 32 && byte != 127
 }

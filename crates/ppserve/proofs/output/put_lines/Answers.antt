@@ -14,3 +14,9 @@ returns-in-Pragma g c = rw c.in-Pragma.is (puts_as (sym (append-nil _)) c.put_pr
 
 pub returns-in-Last : goal.returns-in-Last
 returns-in-Last g c = rw c.in-Last.is (puts_as (sym (append-nil _)) c.put_last.ensures)
+
+pub returns-in-Segment : goal.returns-in-Segment
+returns-in-Segment g c = rw c.in-Segment.is (puts_as (sym (append-nil _)) c.put_segment.ensures)
+
+pub returns-in-Faulty : goal.returns-in-Faulty
+returns-in-Faulty g c = rw c.in-Faulty.is (puts_as (sym (append-nil _)) c.put_faulty.ensures)

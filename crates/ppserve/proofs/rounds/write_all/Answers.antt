@@ -1,8 +1,8 @@
 use Rattle.std.proofs.Common.{rules, ◌≡◌, ◌+◌, ◌<◌, suc, length, drop, sym, subst, ◌∙◌, arith}
 use Rattle.std.proofs.lemmas.List.{drop-set-lt}
-use Rattle.std.proofs.lemmas.List.Elements.{AllWithin-more_set}
+use Rattle.std.proofs.lemmas.List.Elements.{All-set, AllWithin-more_set}
 use Rattle.ppserve.specs.code.Records.{record_lines}
-use Rattle.ppserve.specs.code.Rounds.{IsEmpty, IsFilled}
+use Rattle.ppserve.specs.code.Rounds.{IsAlike, IsEmpty, IsFilled}
 use Rattle.ppserve.proofs.PageRecords.{same_from, one_more_page}
 use Rattle.ppserve.proofs.BufferedPrinting.{puts_as, puts_then}
 use Rattle.ppserve.proofs.rounds.write_all.Goals as goal
@@ -26,4 +26,8 @@ loop-page-preserved g c =
       out = puts_as (one_more_page (record_lines c.args.names.now) c.args.pages.now i c.page-item.result _ same.0 same.1) (puts_then c.loop-page.invariant.out c.write_out.ensures.out);
       rest = drop-set-lt (i + 1) now i left (omega arith) ∙ ((λ j. drop (more j) now) ∙ (same.2 ∙ (λ j. drop (sym more j) c.args.pages.now)));
       empty = AllWithin-more_set now i left below IsEmpty c.loop-page.invariant.empty c.write_out.ensures.empty;
+      alike = λ at all.
+          let before = c.loop-page.invariant.alike at all in
+          let page : IsAlike at left = rw c.write_out.ensures.start (before i c.page-item.result below) in
+          All-set (IsAlike at) now i left page before;
     }

@@ -5,11 +5,11 @@ use Rattle.ppserve.specs.code.Records.{record_of_token, records_of_slices, recor
 use Rattle.ppserve.proofs.RecordLines.{split_tokens}
 use Rattle.ppserve.proofs.line_cursor.LineCursor.next_tokens.Goals as goal
 
-pub returns : goal.returns
-returns c =
+pub returns-clause-yields : goal.returns-clause-yields
+returns-clause-yields c =
     let tokens = slice_tokens c.args.self.now.tokens in
     let old = c.args.self.now in
-    let later = records_of_slices old.items ++ (records_of_last old.last ++ records_from old.output.mode old.next_unit (drop old.next_unit old.output.units.now) (drop old.next_unit old.output.outs.now)) in
+    let later = records_of_slices old.output.mode old.systems old.items ++ (records_of_last old.output.mode old.last ++ records_from old.output.mode (length old.systems) old.next_unit (drop old.next_unit old.output.units.now) (drop old.next_unit old.output.outs.now)) in
     let n = c.min-count.result in
     let within : n ≤ length tokens = omega (arith, c.min-count.ensures, c.len.ensures) in
     let some : 0 < n = omega (arith, c.min-count.ensures, c.len.ensures, c.requires.most, c.requires.tokens) in
