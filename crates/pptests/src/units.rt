@@ -7,7 +7,7 @@ mod judging;
 
 use crate::showing::{assert_shown, push_fault, push_place};
 use ppshelf::{File, MAX_ROWS, MemoryDisk, Pass, Shelf};
-use pptext::{Fault, Hashing, Memory, Profile, Token};
+use pptext::{Fault, Hashing, Memory, Profile, Sequence, Token};
 use ppunit::{
     CommandMacros, Item, ItemRef, ItemSlice, Items, OwnedText, OwnedTexts, Setting, Unit, UnitOut,
     fits_command, preprocess, preprocess_without_items, unit_ok,
@@ -72,6 +72,7 @@ fn setting_of(
         date: text_of(alloc, date)?,
         time: text_of(alloc, time)?,
         search: texts_of(alloc, &["inc"])?,
+        search_shown: Sequence::new(Vec::new(alloc)),
         budget: None,
     })
 }
@@ -84,8 +85,11 @@ fn unit_of(alloc: Global, profile: Profile, file: usize, defines: &[&str]) -> Re
     }
     Ok(Unit {
         file,
+        shown: None,
         defines: CommandMacros::read(alloc, None, defines, profile, Hashing::fixed())?,
+        first: Sequence::new(Vec::new(alloc)),
         search: texts_of(alloc, &[])?,
+        search_shown: Sequence::new(Vec::new(alloc)),
     })
 }
 
@@ -109,6 +113,7 @@ fn push_item(alloc: Global, text: &mut Vec<u8>, item: &Item) -> Result<(), Alloc
             }
             text.extend_from_slice(b"] ")
         }
+        Item::Mark(_) => Ok(()),
     }
 }
 
@@ -134,6 +139,7 @@ fn push_items(alloc: Global, text: &mut Vec<u8>, slice: ItemSlice) -> Result<(),
         ItemSlice::Pragma(at, tokens) => {
             push_item(alloc, text, &ItemRef::Pragma(at, tokens).to_item(alloc)?)
         }
+        ItemSlice::Mark(mark) => push_item(alloc, text, &ItemRef::Mark(mark).to_item(alloc)?),
     }
 }
 
@@ -211,6 +217,25 @@ fn preprocess_again<'a>(
     Ok(out)
 }
 
+/// Preprocesses a unit, and then again without its items.
+fn preprocess_both<'a>(
+    alloc: Global,
+    shelf: &'a Shelf<MemoryDisk>,
+    pass: &mut Pass<'a, MemoryDisk>,
+    disk: &MemoryDisk,
+    setting: &Setting,
+    unit: &'a Unit,
+) -> Result<(UnitOut<'a>, UnitOut<'a>), Memory>
+    requires pass { pass.old.shelf ≡ shelf.now }
+    requires profile { shelf.now.profile ≡ setting.now.profile }
+    requires unit { IsUnitOf (length shelf.now.names) setting.now.profile unit.now }
+    ensures { pass.new.shelf ≡ shelf.now }
+{
+    let out = preprocess_again(alloc, shelf, pass, disk, setting, unit)?;
+    let other = preprocess_without_items(alloc, shelf, pass, disk, setting, unit)?;
+    Ok((out, other))
+}
+
 /// Returns a unit's result as text.
 fn given<'a>(
     alloc: Global,
@@ -229,8 +254,7 @@ fn given<'a>(
     if !unit_ok(shelf, unit) {
         return Err(Fail::new("no such unit"));
     }
-    let out = preprocess_again(alloc, shelf, pass, disk, setting, unit)?;
-    let other = preprocess_without_items(alloc, shelf, pass, disk, setting, unit)?;
+    let (out, other) = preprocess_both(alloc, shelf, pass, disk, setting, unit)?;
     check_without_items(alloc, &out, &other)?;
     as_text(alloc, &out)
 }

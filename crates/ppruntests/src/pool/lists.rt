@@ -1,12 +1,12 @@
 //! Units of small files, and their outputs as texts.
-ghost use Rattle.std.specs.Prelude.{◌≡◌, ◌≤◌, IfOk, All, length};
+ghost use Rattle.std.specs.Prelude.{[], ◌≡◌, ◌≤◌, IfOk, All, length};
 ghost use Rattle.pptext.specs.declared.sources.Profile.TheVariants.{C11};
 ghost use Rattle.ppshelf.specs.Files.{max_rows};
 ghost use Rattle.ppunit.specs.Unit.{IsUnitOf};
 
 use super::stage::Stage;
 use ppshelf::{MAX_ROWS, Shelf};
-use pptext::{Fault, Hashing, Profile};
+use pptext::{Fault, Hashing, Profile, Sequence};
 use ppunit::{CommandMacros, Item, OwnedText, OwnedTexts, Setting, Unit, UnitOut, fits_command};
 use std::alloc::{AllocError, Global};
 use std::test::Fail;
@@ -48,13 +48,14 @@ pub(crate) fn setting_of(alloc: Global) -> Result<Setting, AllocError>
         date: OwnedText::new(String::new(alloc)),
         time: OwnedText::new(String::new(alloc)),
         search,
+        search_shown: Sequence::new(Vec::new(alloc)),
         budget: None,
     })
 }
 
 /// Creates a unit of the file at index `file`, with these definitions.
 pub(crate) fn unit_of(alloc: Global, file: usize, defines: &[&str]) -> Result<Unit, Fail>
-    ensures { IfOk result (λ u. (u.file ≡ file) × (u.defines.profile ≡ C11)) }
+    ensures { IfOk result (λ u. (u.file ≡ file) × (u.first ≡ []) × (u.defines.profile ≡ C11)) }
 {
     let defines = texts_of(alloc, defines)?;
     if !fits_command(defines.as_slice()) {
@@ -62,8 +63,11 @@ pub(crate) fn unit_of(alloc: Global, file: usize, defines: &[&str]) -> Result<Un
     }
     Ok(Unit {
         file,
+        shown: None,
         defines: CommandMacros::read(alloc, None, defines, Profile::C11, Hashing::fixed())?,
+        first: Sequence::new(Vec::new(alloc)),
         search: OwnedTexts::new(Vec::new(alloc)),
+        search_shown: Sequence::new(Vec::new(alloc)),
     })
 }
 

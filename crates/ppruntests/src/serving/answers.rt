@@ -1,6 +1,8 @@
 //! Tests of reading a list, and of the output of a unit with a known result.
-use ppserve::{Contents, List, ListFault, deps, dump, read_list};
-use pptext::{Fault, Hashing, Place, Profile, Sequence, Spelling};
+use ppserve::{Contents, List, ListFault, deps, dump, faults, read_list, text};
+use pptext::{
+    Fault, Hashing, Kind, LeadingLexeme, Place, Profile, Sequence, Spelling, leading_lexeme,
+};
 use ppunit::{Items, Rows, UnitOut};
 use std::alloc::{AllocError, Global};
 use std::process::Abort;
@@ -10,6 +12,8 @@ const UNIT_OF_TWO: &str =
     r#"{~"date":"Feb  9 2024","time":"08:05:03","files":[{"name":"a b.h"},{"name":"c.c"}],"units":[{"file":"c.c"}]}"#;
 
 const PRINTED: &str = "unit 0 c.c\ndep 1 c.c\ndep 0 a b.h\nfault 9 1:20:300 a%25\n";
+
+const FAULTS: &str = "unit 0 c.c\nfault 9 1:20:300 a%25\n";
 
 /// Texts for the tilde, and their meanings: the budget, and the profile, which also the unit's definitions are read
 /// with.
@@ -74,6 +78,8 @@ fn assert_printed(rt: &impl Abort, alloc: Global, list: &List, out: UnitOut) -> 
     }
     assert!(rt; dump(alloc, list, &outs)?.as_slice() == PRINTED.as_bytes());
     assert!(rt; deps(alloc, list, &outs)?.as_slice() == PRINTED.as_bytes());
+    assert!(rt; text(alloc, list, &outs)?.as_slice() == PRINTED.as_bytes());
+    assert!(rt; faults(alloc, list, &outs)?.as_slice() == FAULTS.as_bytes());
     Ok(())
 }
 
@@ -99,5 +105,19 @@ fn contents_are_given_back(rt: HostRuntime) -> Result<(), Fail> {
     let contents = Contents::new(texts);
     assert!(rt; are_x(contents.as_slice()));
     assert!(rt; are_x(contents.into_vec().as_slice()));
+    Ok(())
+}
+
+#[test]
+fn items_that_have_no_mark_have_at_most_0(rt: HostRuntime) -> Result<(), Fail> {
+    let items = Items::new(rt.alloc());
+    assert!(rt; items.slices().most_marks() == 0);
+    Ok(())
+}
+
+#[test]
+fn a_text_begins_with_its_longest_lexeme(rt: HostRuntime) -> Result<(), Fail> {
+    assert!(rt; matches!(leading_lexeme(b"+=x"), LeadingLexeme::Token(Kind::Punct, 2)));
+    assert!(rt; matches!(leading_lexeme(b"/* x"), LeadingLexeme::Unclosed));
     Ok(())
 }

@@ -87,12 +87,12 @@ fn substituted<'x, 'a: 'x>(
     requires base { IsKnown sets.old name.now.base }
 {
     let base = name.base;
-    let answer = substitute_pattern(alloc, pattern, arguments, name, sets);
+    let answer = substitute_pattern(Vec::new(alloc), pattern, arguments, name, sets);
     if !matches!(&answer, Err(Error::Memory)) {
         return answer;
     }
     assert!(rt; has(rt, sets, base, b"b") && !has(rt, sets, base, b"f"));
-    substitute_pattern(alloc, pattern, arguments, name, sets)
+    substitute_pattern(Vec::new(alloc), pattern, arguments, name, sets)
 }
 
 /// Returns the macro name token `f` of an invocation.
