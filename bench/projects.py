@@ -12,8 +12,8 @@ that it started.  A row has the number of units, of those that the compiler take
 compiler's tokens, and have its dependencies in its order.  bench/cutter.py makes spellings of the compiler's text.
 
 The comparison leaves out stdc-predef.h, which gcc includes by itself, #ident lines, pragmas that gcc executes and doesn't
-print, like #pragma once, and how __FILE__ names a file: the list names it from /.  Standard error names each unit that
-differs, with the first location where it does.
+print, like #pragma once, and how __FILE__ spells a file's path.  Standard error names each unit that differs, with the
+first location where it does.
 
 Status: 0 all units that the compiler takes are the same, 1 some differ, 2 the command line is wrong, 3 build.py failed.
 """
@@ -40,7 +40,6 @@ from common import Unit, plain  # noqa: E402
 # options that name an output file, and those whose next word does
 WRITING, WRITING_WORD = ("-c", "-S", "-MD", "-MMD", "-MP", "-MG", "-M", "-MM"), ("-o", "-MF", "-MT", "-MQ", "-MJ")
 COMPILER = re.compile(r"(?:.*-)?(?:cc|gcc|clang)(?:-[\d.]+)?$")
-MADE = re.compile(r"cppunits-generated/\d+/")
 UNASKED = b"/stdc-predef.h"
 # lines of a dump: tokens with their spellings, and pragmas with their tokens
 PRINTED = re.compile(rb"\np?tok [^ \n]+ [^ \n]+ [^ \n]+ ([^\n]*)")
@@ -170,8 +169,8 @@ def same_file(mine, other, entry):
     """Returns whether two literals name the same file, as __FILE__ does."""
     if not (mine[:1] == other[:1] == b'"'):
         return False
-    path = os.path.join(os.fsencode(entry.directory), other[1:-1])
-    return os.path.normpath(path) == b"/" + mine[1:-1]
+    paths = [os.path.normpath(os.path.join(os.fsencode(entry.directory), one[1:-1])) for one in (mine, other)]
+    return paths[0] == paths[1]
 
 
 def excerpt(tokens, at):
@@ -190,11 +189,8 @@ def dependencies_of_compiler(text, entry):
 
 
 def dependencies_of_unit(unit):
-    """Returns the unit's dependencies, its source first as with a compiler, and without the file that was generated for it."""
-    names = [name for name in unit.dependencies() if not MADE.match(os.fsdecode(name))]
-    if unit.source in names:
-        names.insert(0, names.pop(names.index(unit.source)))
-    return real(b"/" + name for name in names)
+    """Returns the unit's dependencies."""
+    return real(b"/" + name for name in unit.dependencies())
 
 
 def real(paths):
@@ -288,7 +284,7 @@ def pairs(output, by_file):
     """Pairs each unit with its command; units of one file are in the order of their commands."""
     used = collections.Counter()
     for unit in dumped(output):
-        file = "/" + os.fsdecode(unit.source)
+        file = "/" + os.fsdecode(unit.name)
         yield unit, by_file[file][used[file]]
         used[file] += 1
 

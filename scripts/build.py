@@ -1,5 +1,5 @@
 #!/usr/bin/env python3
-"""Makes dependency files, a dump or faults from a build's compile_commands.json."""
+"""Makes dependency files, a dump, texts or faults from a build's compile_commands.json."""
 import argparse
 import os
 import re
@@ -9,18 +9,20 @@ import tempfile
 import time
 
 from commands import Report, commands
-from common import DONE, PARTLY, STREAM, Refused, parser, run, say, written
-from compilers import HAS_INCLUDE, SECONDS, Compilers
-from deps import FORMS, deps
+from common import DONE, PARTLY, STREAM, Refused, parser, run, say, units, units_of, written
+from compilers import SECONDS, CompilerAdditions, Compilers
+from deps import FORMS, Places, Result, deps
 from faults import forms, print_faults, wants_color
-from lists import Additions, Builder, bytes_of, list_of
-from runs import PIECE, Program, gather_all
+from lists import Builder, bytes_of, list_of
+from runs import Program, gather_all
+from text import write_text
 
 TEXT = """\
 Preprocess the C units of a build, as its compile_commands.json has them.
 
   build.py deps     write a dependency file for each unit, like gcc -MD, or print JSON or rules: --format
   build.py dump     print the tokens and dependencies of each unit, like `cppunits dump`
+  build.py text     print each unit as text that a compiler takes, like `cppunits text`, or write it to a file: --into
   build.py faults   print the first fault of each unit that has one, like faults.py: by file, line and column
 
 Example, in a project's build directory:  build.py faults compile_commands.json
@@ -33,9 +35,7 @@ to allow others.  The list has all files that an include line can find.  For nam
 it asks for no more files.
 
 The last line on standard error has the number of units, of units with a fault, of files, and the seconds."""
-FACTS = {"inline": False, "budget": None, "date": None, "time": None, "root": "/"}
-# definitions that the profile gnu alone takes
-GNU_ALONE = (*HAS_INCLUDE, "__STDC_VERSION__")
+FACTS = {"inline": False, "shown": True, "budget": None, "date": None, "time": None, "root": "/"}
 DEPENDENCY = re.compile(rb"\ndep (\d+) ")
 
 
@@ -61,6 +61,11 @@ class Summary(Report):
         super().__init__()
         self.progress = progress
 
+    def say(self, line):
+        """Prints a line that isn't about the list."""
+        self.progress.clear()
+        say(line)
+
     def add(self, line):
         self.progress.clear()
         super().add(line)
@@ -73,25 +78,6 @@ class Summary(Report):
         self.out[reason] = self.out.get(reason, 0) + 1
 
 
-class CompilerAdditions(Additions):
-    """Holds the directories and definitions that a unit gets from its compiler's answers."""
-
-    def __init__(self, compilers, asked):
-        super().__init__(asked.system, asked.define)
-        self.compilers, self.left_out = compilers, () if asked.profile == "gnu" else GNU_ALONE
-
-    def folders(self, command):
-        answer = self.compilers.answer(command)
-        return (answer.folders if answer else []) + self.system
-
-    def definitions(self, command):
-        answer = self.compilers.answer(command)
-        found = dict(answer.definitions() if answer else HAS_INCLUDE)
-        for name in self.left_out:
-            found.pop(name, None)
-        return {**found, **self.texts}
-
-
 class Work:
     """Makes a build's list, and runs cppunits on it."""
 
@@ -100,8 +86,9 @@ class Work:
         self.progress = Progress()
         self.report = Summary(self.progress)
         self.program = Program(program_of(asked.program), folder, asked.workers)
+        # the numbers of the files that units read; None if it isn't known
         self.faults, self.read = 0, set()
-        facts = argparse.Namespace(**FACTS, profile=asked.profile, generate=os.path.join(folder, "root"))
+        facts = argparse.Namespace(**FACTS, profile=asked.profile)
         self.compilers = Compilers(self.report, asked.query_driver, asked.seconds)
         self.builder = Builder(facts, self.report, CompilerAdditions(self.compilers, asked), True)
         self.commands, self.listed, self.pairs, self.failed = [], None, [], False
@@ -122,7 +109,8 @@ class Work:
         rows, self.pairs = self.builder.build(some_commands)
         self.listed = list_of(self.builder.asked, rows, self.pairs)
         if self.asked.list:
-            self.keep(some_commands)
+            with written(self.asked.list) as file:
+                file.write(bytes_of(self.listed))
 
     def prepare(self):
         """Reads the commands, and makes the list of all."""
@@ -136,15 +124,6 @@ class Work:
         if not count:
             self.report.end()
             raise Refused("%s: no unit can be expressed" % self.asked.build)
-
-    def keep(self, all_commands):
-        """Writes the list; if files were generated, with the contents of all files."""
-        listed = self.listed
-        if self.builder.made:
-            self.builder.asked.inline = True
-            listed = list_of(self.builder.asked, *self.builder.build(all_commands))
-        with written(self.asked.list) as file:
-            file.write(bytes_of(listed))
 
     def learn(self):
         self.compilers.learn(self.builder.files.names_for_operators(self.builder.paths))
@@ -169,16 +148,21 @@ class Work:
                 done += lines.count(b"\nok\n") + lines.count(b"\nfault ")
                 self.progress("%d of %d units are written" % (done, count))
 
+    def lines(self, word):
+        """Yields the lines of the output of cppunits."""
+        for piece in self.counted(self.pieces(word)):
+            yield from (line + b"\n" for line in piece.split(b"\n")[:-1])
+
     def end(self):
         """Prints the summary, and returns the exit status."""
         self.report.end()
         self.progress.clear()
-        units, files = "%d units" % self.units, "%d files" % len(self.read)
+        count, files = "%d units" % self.units, [] if self.read is None else ["%d files" % len(self.read)]
         if self.anew is not None:
-            units += " (%d anew)" % self.anew
+            count += " (%d anew)" % self.anew
         if self.listed is not None and self.anew is None:
-            files += " (%d on the list)" % len(self.listed["files"])
-        say("%s, %d with a fault, %s, %.1f seconds" % (units, self.faults, files, time.monotonic() - self.began))
+            files.append(("(%d on the list)" if files else "%d files on the list") % len(self.listed["files"]))
+        say("%s, %d with a fault, %s, %.1f seconds" % (count, self.faults, " ".join(files), time.monotonic() - self.began))
         return STREAM if self.failed else PARTLY if self.faults or self.report.lines else DONE
 
     def fail(self, line):
@@ -186,13 +170,17 @@ class Work:
         self.failed = True
         self.report.add(line)
 
-    def count(self, path):
-        """Counts the faults of an output and the files that were read, and yields its bytes in pieces."""
-        with open(path, "rb") as file:
-            yield from self.counted(iter(lambda: file.read(PIECE) + file.readline(), b""))
+    def deps_of(self, numbers):
+        """Yields these units of the list as `cppunits deps` prints them, with their numbers in the list."""
+        path = os.path.join(self.folder, "deps")
+        with open(path, "wb") as output:
+            self.program.run("deps", dict(self.listed, units=[self.listed["units"][number] for number in numbers]), self.builder.root, output)
+        for number, unit in zip(numbers, units(path)):
+            unit.number = number
+            yield unit
 
     def counted(self, pieces):
-        """Counts the same in pieces that end with whole lines, and yields them."""
+        """Counts the faults and the files that were read in pieces of an output that end with whole lines, and yields them."""
         for piece in pieces:
             lines = b"\n" + piece
             self.read.update(DEPENDENCY.findall(lines))
@@ -200,22 +188,53 @@ class Work:
             yield piece
 
 
-def dump(work):
-    """Prints the dump."""
+def printed(work, word):
+    """Prints what cppunits prints."""
     work.prepare()
     with written(work.asked.output) as out:
-        out.writelines(work.counted(work.pieces("dump", work.asked.output == "-" and sys.stdout.isatty())))
+        out.writelines(work.counted(work.pieces(word, work.asked.output == "-" and sys.stdout.isatty())))
+
+
+def dump(work):
+    """Prints the dump."""
+    printed(work, "dump")
+
+
+class TextPlaces(Places):
+    """Finds the path of each unit's text: the object's name with another suffix."""
+
+    suffix = ".i"
+
+    def named(self, path):
+        return os.path.splitext(path)[0] + self.suffix
+
+
+def text(work):
+    """Prints the texts, or writes each to a file by the name of its unit's object."""
+    if work.asked.into is None:
+        printed(work, "text")
+        return
+    work.prepare()
+    places = TextPlaces(work.asked.build, work.asked.into)
+    for unit, (command, _) in zip(units_of("the output", work.lines("text")), work.pairs):
+        try:
+            path = places.own(Result(command, [], [], None), unit.number, work.report)
+            if unit.fault is None:
+                write_text(unit, path)
+            else:
+                work.report.say("%s: fault %s, so there is no text (`build.py faults` says more)" % (command.file, unit.fault.split(" ")[0]))
+        except Refused as refusal:
+            work.report.add("%s: %s" % (command.file, refusal))
+        except OSError as error:
+            work.fail("%s: %s: %s" % (command.file, error.filename, error.strerror))
 
 
 def faults(work):
     """Prints the faults."""
     work.prepare()
-    path = work.run("deps")
-    for _ in work.count(path):
-        pass
+    path, color, work.read = work.run("faults"), wants_color(work.asked.color, sys.stdout), None
     with open(path, "rb") as file:
-        color = wants_color(work.asked.color, sys.stdout)
-        print_faults(work.listed, file, work.builder.root, sys.stdout, color, work.asked.form, os.path.join(work.folder, "root"))
+        work.faults = print_faults(work.listed, file, work.builder.root, sys.stdout, color, work.asked.form, work.deps_of)
 
 
 def program_of(word):
@@ -238,10 +257,10 @@ def number(word, least, most, kind):
 
 def options():
     asked = parser(TEXT, "some unit has a fault, or something can't be expressed; standard error says what")
-    words = asked.add_subparsers(required=True, metavar="deps|dump|faults")
-    for name, task, text in (("deps", deps, "write dependency files"), ("dump", dump, "print tokens and dependencies"),
-                             ("faults", faults, "print faults")):
-        word = words.add_parser(name, help=text, description=text[0].upper() + text[1:] + ", as build.py --help says.")
+    words = asked.add_subparsers(required=True, metavar="deps|dump|text|faults")
+    for name, task, told in (("deps", deps, "write dependency files"), ("dump", dump, "print tokens and dependencies"),
+                             ("text", text, "print or write texts that a compiler takes"), ("faults", faults, "print faults")):
+        word = words.add_parser(name, help=told, description=told[0].upper() + told[1:] + ", as build.py --help says.")
         word.set_defaults(task=task)
         word.add_argument("build", metavar="FILE", nargs="?", default="compile_commands.json",
                           help="read these compile commands (default: compile_commands.json; -: standard input)")
@@ -251,7 +270,9 @@ def options():
                               help="write a file for each unit, or print rules for make, or a JSON object a line (default: files)")
             word.add_argument("--anew", action="store_true", help="run all units, not only those that changed since the last run")
             word.add_argument("--phony", action="store_true", help="add a rule without prerequisites for each header, for make, as -MP does")
-        if task is dump:
+        if task is text:
+            word.add_argument("--into", metavar="DIR", help="write a file for each unit to this directory, by the name of its object: main.i for main.o")
+        if task in (dump, text):
             word.add_argument("--output", metavar="FILE", default="-", help="write here (default: standard output)")
         if task is faults:
             forms(word)
@@ -259,16 +280,18 @@ def options():
     words = asked.parse_args()
     if words.task is deps and words.into is not None and words.form != "files":
         asked.error("--into goes with --format files alone")
+    if words.task is text and words.into is not None and words.output != "-":
+        asked.error("--into doesn't go with --output")
     return words
 
 
 def shared(word):
-    """Adds the options that deps, dump and faults share."""
+    """Adds the options that all tasks share."""
     word.add_argument("--program", metavar="FILE", help="run this program (default: cppunits on PATH)")
     word.add_argument("--workers", metavar="N", type=lambda text: number(text, 1, 64, int), help="preprocess N units in parallel")
     word.add_argument("--profile", choices=("c11", "later", "gnu"), default="gnu",
                       help="set the rules: gnu for headers of Linux, later for C23's branches and #pragma once (default: gnu)")
-    word.add_argument("--list", metavar="FILE", help="write the list here, with names below / (and with contents if -include made files)")
+    word.add_argument("--list", metavar="FILE", help="write the list here, with names below /")
     word.add_argument("--query-driver", metavar="GLOB", action="append", default=[],
                       help="allow compilers whose paths match, like '/srv/cross/bin/*-gcc' (may be repeated)")
     word.add_argument("--seconds", metavar="N", type=lambda text: number(text, 0.1, 3600, float), default=SECONDS,

@@ -2,7 +2,6 @@
 import functools
 import os
 import re
-import shlex
 
 from common import Refused, opened, read_json, say
 
@@ -91,19 +90,7 @@ class Command:
         words = list(entry["arguments"]) if entry.get("arguments") is not None else split_command(entry["command"])
         at_word = compiler_at(words)
         self.compiler = words[at_word] if at_word < len(words) else ""
-        return list(self.with_responses(words[at_word + 1:], 0))
-
-    def with_responses(self, words, depth):
-        """Returns the words, with @FILE and -Wp, replaced by the words that they stand for."""
-        before = None
-        for word in words:
-            if word.startswith("@") and depth < 16 and before not in WORD_BEHIND:
-                yield from self.with_responses(response(self.directory, word[1:]), depth + 1)
-            elif word.startswith("-Wp,"):
-                yield from preprocessor_words(word[4:].split(","))
-            else:
-                yield word
-            before = word
+        return list(with_responses(self.directory, words[at_word + 1:], 0))
 
     def options(self, words):
         """Yields the options that are read, each with its value, and reports those that can't be read."""
@@ -137,8 +124,10 @@ class Command:
     def take(self, option, word):
         if option in FOLDERS:
             folder = at(self.directory, word)
+            asked = os.path.join(self.directory, word)
+            if is_folder(folder) or (".." in word and is_folder(asked)):
+                self.report.same(asked, folder)
             if is_folder(folder):
-                self.report.same(os.path.join(self.directory, word), folder)
                 self.folders[FOLDERS[option]].append(folder)
                 self.spelled.setdefault(folder, word)
         elif option == "-D":
@@ -185,7 +174,24 @@ class Command:
 
     def search(self, system):
         """Returns the directories for names in quotes, in order, and how many of them are for names in quotes only."""
-        return searched(self.folders, system)
+        return searched(self.folders, self.late(system))
+
+    def late(self, system):
+        """Returns the directories of the system: those of -isystem, those of the compiler, and those of -idirafter."""
+        return self.folders["system"] + system + self.folders["after"]
+
+
+def with_responses(directory, words, depth):
+    """Yields the words, with @FILE and -Wp, replaced by the words that they stand for."""
+    before = None
+    for word in words:
+        if word.startswith("@") and depth < 16 and before not in WORD_BEHIND:
+            yield from with_responses(directory, response(directory, word[1:]), depth + 1)
+        elif word.startswith("-Wp,"):
+            yield from preprocessor_words(word[4:].split(","))
+        else:
+            yield word
+        before = word
 
 
 def preprocessor_words(words):
@@ -215,9 +221,9 @@ def option_of(word):
     return (None, word, None) if option is None else ("read", option, word[len(option):])
 
 
-def searched(folders, system):
+def searched(folders, late):
     """Joins the directories of each kind, and drops duplicates as gcc does; directories are compared by what they are, not by name."""
-    late = once(folders["system"] + system + folders["after"])
+    late = once(late)
     late_places = {place(folder) for folder in late}
     bracket = [folder for folder in once(folders["bracket"]) if place(folder) not in late_places] + late
     quote = once(folders["quote"])
@@ -267,6 +273,7 @@ MARK = re.compile(r"[\"'\\]")
 def split_command(text):
     """Splits a command into words as a shell does.  The result is that of shlex, in a tenth of the time."""
     if WORD.sub("", text).strip(" \t\r\n"):
+        import shlex
         return shlex.split(text)
     words = (word[0] for word in WORD.finditer(text))
     return [PIECE.sub(unquoted, word) if MARK.search(word) else word for word in words]
@@ -293,6 +300,7 @@ def response(directory, name):
 
 def split_response(text):
     """Splits a response file into words: quotes keep white space in a word, and a backslash keeps the next character."""
+    import shlex
     words = shlex.shlex(text, posix=True, punctuation_chars=False)
     words.whitespace_split, words.commenters, words.escapedquotes = True, "", "\"'"
     return list(words)

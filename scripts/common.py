@@ -1,16 +1,13 @@
 """Has what the scripts share: exit statuses, files written whole or not at all, and a reader of the output of cppunits."""
-import argparse
 import contextlib
 import json
 import os
 import re
 import signal
 import sys
-import tempfile
+import time
 
 DONE, PARTLY, USAGE, REFUSED, STREAM = 0, 1, 2, 3, 5
-# files that list_from_build.py generates have names in this directory of a list; they are on disk only if it was asked to write them
-GENERATED = "cppunits-generated"
 
 STATUSES = """\
 status:
@@ -27,52 +24,11 @@ class Refused(Exception):
     """Is raised if an input doesn't have the required form."""
 
 
-class Parser(argparse.ArgumentParser):
-    """Parses the command line, and reports an error in one line.  Options of a task may come before its name, too."""
-
-    def __init__(self, *words, **more):
-        self.own, self.tasks = [], None
-        super().__init__(*words, **more)
-
-    def add_argument(self, *words, **more):
-        action = super().add_argument(*words, **more)
-        self.own.append(action)
-        return action
-
-    def add_subparsers(self, **more):
-        self.tasks = super().add_subparsers(**more)
-        return self.tasks
-
-    def parse_args(self, args=None, namespace=None):
-        words = list(sys.argv[1:] if args is None else args)
-        return super().parse_args(self.task_first(words) if self.tasks else words, namespace)
-
-    def task_first(self, words):
-        """Returns the words with the task, the first that is neither an option nor its value, before all others."""
-        options = [action for task in self.tasks.choices.values() for action in task.own]
-        place = 0
-        while place < len(words) and re.match("-.", words[place]):
-            if "=" in words[place] or not takes_value(words[place], options):
-                place += 1
-            else:
-                place += 2
-        return words[place:place + 1] + words[:place] + words[place + 1:]
-
-    def error(self, message):
-        say("%s (--help says more)" % message)
-        sys.exit(USAGE)
-
-
-def takes_value(word, options):
-    """Returns whether an option, maybe shortened, takes the next word as its value."""
-    found = [action for action in options if any(name.startswith(word) for name in action.option_strings)]
-    return bool(found) and all(action.nargs != 0 for action in found)
-
-
 def parser(text, partly):
     """Returns a parser whose help ends with the exit statuses; `partly` says when the status is 1."""
-    form = argparse.RawDescriptionHelpFormatter
-    return Parser(description=text, epilog=STATUSES % partly, formatter_class=form)
+    # loaded here, since a compiler's front has no use for it and starts for each file
+    import parsing
+    return parsing.Parser(description=text, epilog=STATUSES % partly, formatter_class=parsing.FORM)
 
 
 def say(text):
@@ -124,23 +80,15 @@ def written(path):
     path = os.path.realpath(path)
     folder = os.path.dirname(path)
     os.makedirs(folder, exist_ok=True)
-    number, beside = tempfile.mkstemp(prefix=".", suffix=".part", dir=folder)
+    beside = os.path.join(folder, ".%d.%d.part" % (os.getpid(), time.monotonic_ns()))
     try:
-        with os.fdopen(number, "wb") as file:
+        with open(os.open(beside, os.O_WRONLY | os.O_CREAT | os.O_EXCL, 0o666), "wb") as file:
             yield file
-        os.chmod(beside, 0o666 & ~mask())
         os.replace(beside, path)
     except BaseException:
         with contextlib.suppress(OSError):
             os.unlink(beside)
         raise
-
-
-def mask():
-    """Returns the permission bits that new files don't get; the only way to read them is to set them."""
-    bits = os.umask(0)
-    os.umask(bits)
-    return bits
 
 
 @contextlib.contextmanager
@@ -192,22 +140,17 @@ class Unit:
         return plain(self.printed)
 
     @property
-    def source(self):
-        """Returns the name of the file that is compiled, also if the unit's file was generated for it."""
-        made = re.fullmatch(GENERATED.encode() + rb"/\d+/(.+)", self.name, re.DOTALL)
-        return made[1] if made else self.name
-
-    @property
     def fault(self):
         """Returns what follows `fault` in its last line, or None."""
         return None if self.last == b"ok" else self.last[6:].decode("ascii", "replace")
 
     def dependencies(self):
-        """Returns the names of its dependencies, as bytes."""
-        return [plain(line.split(b" ", 2)[2]) for line in self.lines if line.startswith(b"dep ")]
+        """Returns the names of its dependencies, as bytes, in a compiler's order: its own file comes before those that are read first."""
+        names = [plain(line.split(b" ", 2)[2]) for line in self.lines if line.startswith(b"dep ")]
+        return sorted(names, key=lambda name: name != self.name)
 
 
-INSIDE = (b"tok ", b"prag ", b"ptok ", b"dep ")
+INSIDE = (b"tok ", b"prag ", b"ptok ", b"|", b"in ", b"dep ")
 
 
 def units(path):
@@ -246,10 +189,10 @@ def begun(where, line, number):
 
 
 def own_names(all_units, end):
-    """Yields each unit with a file name of its own: its source's name and the suffix, with its number if that name is taken."""
+    """Yields each unit with a file name of its own: its file's name and the suffix, with its number if that name is taken."""
     taken = set()
     for unit in all_units:
-        name = os.fsdecode(unit.source)
+        name = os.fsdecode(unit.name)
         own = name + end
         while own in taken:
             name += ".%d" % unit.number

@@ -4,20 +4,14 @@ A list of commands may be untrusted, so only few programs are run: those with th
 and those that the user allows.  No shell is used, each question has a time limit, and options that load or write anything aren't passed.
 """
 import contextlib
-import fnmatch
+import functools
 import os
 import re
-import select
-import shutil
-import signal
-import subprocess
-import tempfile
-import threading
 import time
-from concurrent.futures import ThreadPoolExecutor
 
 from commands import at, defined_name, is_text, unique
 from files import hashed
+from lists import Additions
 
 NAME = re.compile(r"(?:\w[\w.]*-){0,5}(?:cc|gcc|clang)(?:-\d[\d.]*)?")
 PLACES = ("/usr/", "/opt/")
@@ -28,16 +22,20 @@ KEPT = {"__FILE__", "__LINE__", "__DATE__", "__TIME__", "__STDC__", "defined", "
 MACRO = re.compile(r"#define ([A-Za-z_$][\w$]*(?:\([^()]*\))?(?: .*)?)")
 # the operators are no macros for cppunits, but headers test them by `#ifdef`
 HAS_INCLUDE = {name: "%s %s" % (name, name) for name in ("__has_include", "__has_include_next")}
+# definitions that the profile gnu alone takes
+GNU_ALONE = (*HAS_INCLUDE, "__STDC_VERSION__")
 
 
 class Limit:
     """Holds how many seconds a question may take, and an event that stops all questions."""
 
     def __init__(self, seconds):
+        import threading
         self.seconds, self.stopped = seconds, threading.Event()
 
     def wait(self, stream, end):
         """Waits until there is something to read.  It waits in short steps, so that it sees the event that stops all questions."""
+        import select
         while not self.stopped.is_set() and time.monotonic() < end:
             if select.select([stream], [], [], min(0.1, self.seconds))[0]:
                 return
@@ -57,9 +55,14 @@ class Answer:
 
     def __init__(self, folders, macros):
         self.folders, self.macros, self.operators, self.whole, self.asked = folders, macros, [], None, False
-        # tells answers apart, but for the values of the operators, which follow from the compiler and the options
-        self.key = hashed(repr([folders, sorted(macros.items())]).encode("utf-8", "surrogatepass"))
+        # whether __STDC_HOSTED__ is 1, and directories that the compiler would search if they were there
+        self.hosted, self.absent = True, []
         self.known = {operator: {} for operator in OPERATORS}
+
+    @functools.cached_property
+    def key(self):
+        """Returns what tells answers apart, but for the values of the operators, which follow from the compiler and the options."""
+        return hashed(repr([self.folders, sorted(self.macros.items())]).encode("utf-8", "surrogatepass"))
 
     def definitions(self):
         """Returns all definitions by name, with those of the operators."""
@@ -90,8 +93,12 @@ class Compilers:
     """Holds answers by compiler and options.  Each question is asked once, several at a time."""
 
     def __init__(self, report, globs=(), seconds=SECONDS):
-        self.report, self.globs, self.limit = report, globs, Limit(seconds)
+        self.report, self.globs, self.seconds = report, globs, seconds
         self.answers, self.failed, self.programs = {}, set(), {}
+
+    @functools.cached_property
+    def limit(self):
+        return Limit(self.seconds)
 
     def answer(self, command):
         """Returns the answer of the command's compiler, or None, which is reported."""
@@ -106,7 +113,8 @@ class Compilers:
         self.answers.update({key: None for key in keys})
         found = self.each(answer_of, [(*key, self.limit) for key in keys if key[0] is not None])
         for key, answer in found.items():
-            if answer.macros.pop("__STDC_HOSTED__", None) == "__STDC_HOSTED__ 0":
+            answer.hosted = answer.macros.pop("__STDC_HOSTED__", None) != "__STDC_HOSTED__ 0"
+            if not answer.hosted:
                 self.report.add("%s: __STDC_HOSTED__ is 0 there, and stays 1 here" % " ".join([key[0], *key[1]]))
         self.answers.update(found)
 
@@ -137,6 +145,10 @@ class Compilers:
     def each(self, task, questions):
         """Returns the answers to questions by compiler and options; a compiler that hangs isn't asked again."""
         found = {}
+        if not questions:
+            return found
+        # loaded here, since a compiler's front mostly has no question, and starts for each file
+        from concurrent.futures import ThreadPoolExecutor
 
         def one(question):
             if question[0] in self.failed:
@@ -162,11 +174,31 @@ class Compilers:
         return found
 
 
+class CompilerAdditions(Additions):
+    """Holds the directories and definitions that a unit gets from its compiler's answers."""
+
+    def __init__(self, compilers, asked):
+        super().__init__(asked.system, asked.define)
+        self.compilers, self.left_out = compilers, () if asked.profile == "gnu" else GNU_ALONE
+
+    def folders(self, command):
+        answer = self.compilers.answer(command)
+        return (answer.folders if answer else []) + self.system
+
+    def definitions(self, command):
+        answer = self.compilers.answer(command)
+        found = dict(answer.definitions() if answer else HAS_INCLUDE)
+        for name in self.left_out:
+            found.pop(name, None)
+        return {**found, **self.texts}
+
+
 def answer_of(program, options, limit):
     """Asks a compiler for its directories and macros."""
-    folders = folders_of(ask(program, options, ["-v"], False, limit))
-    macros = macros_of(ask(program, options, ["-dM"], True, limit))
-    return Answer(folders, macros)
+    told = ask(program, options, ["-v"], False, limit)
+    answer = Answer(folders_of(told), macros_of(ask(program, options, ["-dM"], True, limit)))
+    answer.absent = re.findall(r'^ignoring nonexistent directory "([^"\n]+)"$', told, re.MULTILINE)
+    return answer
 
 
 def operator_values(program, options, limit, pairs):
@@ -181,6 +213,7 @@ def ask(program, options, question, output, limit, text=b""):
 
 def trust(word, directory, globs):
     """Returns the path of a compiler and the reason why it isn't run; the reason is None if it may be run."""
+    import fnmatch
     if not is_text(word) or "\0" in word:
         return None, "its name is no text"
     path = at(directory, word) if os.path.dirname(word) else found_on_path(word)
@@ -207,12 +240,16 @@ def is_installed(path):
 
 def found_on_path(word):
     """Returns the path of a program on PATH, or None; relative directories of PATH don't count."""
+    import shutil
     folders = [folder for folder in os.environ.get("PATH", os.defpath).split(os.pathsep) if os.path.isabs(folder)]
     return shutil.which(word, path=os.pathsep.join(folders)) if word and folders else None
 
 
 def output_of(words, text, output, limit):
     """Runs a program in a temporary directory with a text as its input, and returns its output; time and output are limited."""
+    import signal
+    import subprocess
+    import tempfile
     with tempfile.TemporaryDirectory() as folder, tempfile.TemporaryFile() as given:
         given.write(text)
         given.seek(0)

@@ -4,7 +4,7 @@ import functools
 import os
 import re
 
-from common import DONE, GENERATED, PARTLY, Refused, opened, own_names, parser, run, say, units, written
+from common import DONE, PARTLY, Refused, opened, own_names, parser, run, say, units, written
 
 TEXT = """\
 Make dependency files from the output of `cppunits deps` (or `dump`), one for each unit: DIR/NAME.d for the unit of the
@@ -15,7 +15,7 @@ Example:  cppunits --root . deps < list.json | depfile.py --into d
 
 The target is NAME with its last suffix replaced by `.o`.  Use --targets for other targets: a file with one on each
 line, as list_from_build.py --targets writes it.  Names are relative to the list's root.  Use --prefix to add the path
-from the build directory to the root.  Files that list_from_build.py generated are left out.
+from the build directory to the root.
 
 A unit with a fault has its dependencies only up to the fault, so its file isn't written; use --partial to write it."""
 # bytes that can't be written in a way that both ninja and make read
@@ -51,10 +51,10 @@ def targets_of(path):
 
 def target_of(unit, targets):
     if targets is None:
-        return object_of(unit.source)
+        return object_of(unit.name)
     if unit.number >= len(targets):
         raise Refused("there is no target for unit %d" % unit.number)
-    return targets[unit.number] or object_of(unit.source)
+    return targets[unit.number] or object_of(unit.name)
 
 
 def main():
@@ -67,15 +67,16 @@ def main():
     asked.add_argument("--phony", action="store_true", help="add a rule without prerequisites for each header, for make")
     asked.add_argument("--partial", action="store_true", help="write the file of a unit with a fault too")
     asked = asked.parse_args()
-    targets, prefix, made = targets_of(asked.targets), os.fsencode(asked.prefix), GENERATED.encode() + b"/"
-    status = DONE
+    targets, prefix, status = targets_of(asked.targets), os.fsencode(asked.prefix), DONE
     for unit, own in own_names(units(asked.output), ".d"):
         if unit.fault is not None:
             say("unit %d, %s: fault %s" % (unit.number, os.fsdecode(unit.name), unit.fault))
             status = PARTLY
         if unit.fault is None or asked.partial:
-            names = [prefix + name for name in unit.dependencies() if not name.startswith(made)]
-            headers = [name for name in names if name != prefix + unit.source] if asked.phony else []
+            names = [prefix + name for name in unit.dependencies()]
+            if not names and unit.fault is None:
+                raise Refused("unit %d has no dependencies: the output of `cppunits deps` is wanted" % unit.number)
+            headers = [name for name in names if name != prefix + unit.name] if asked.phony else []
             text = rule(escaped(target_of(unit, targets)), names, headers)
             with written(os.path.join(asked.into, own)) as file:
                 file.write(text)

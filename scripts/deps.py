@@ -4,7 +4,7 @@ import re
 import sys
 
 import depfile
-from common import GENERATED, Refused, compact, plain, say, units, written
+from common import Refused, compact, plain, say, units, written
 from seen import Memory, key_of, setting_of
 from spelled import Names
 
@@ -61,35 +61,39 @@ def fault_of(fault, names):
 def run_units(work):
     """Runs the units of the list, and returns their results."""
     path, names = work.run("deps"), Names(work.builder)
-    made = GENERATED + "/"
-    rows = [None if row["name"].startswith(made) else "/" + row["name"] for row in work.listed["files"]]
+    rows = ["/" + row["name"] for row in work.listed["files"]]
     found = []
     for unit, (command, _) in zip(units(path), work.pairs):
         paths = [rows[int(line.split(b" ", 2)[1])] for line in unit.lines]
-        paths = [path for path in paths if path is not None]
         if command.file in paths:
-            # a file that a generated file included comes first here, as if it were compiled itself
+            # compilers name it before the files of -include, which are read first
             paths.insert(0, paths.pop(paths.index(command.file)))
         found.append(Result(command, paths, names.of(command, paths), unit.fault))
     return found
 
 
 class Places:
-    """Finds the path of each dependency file: none is shared, and none is outside the build's directories unless --into names one."""
+    """Finds the path of each unit's file: none is shared, and none is outside the build's directories unless --into names one."""
+
+    suffix = ".d"
 
     def __init__(self, build, into):
         self.into, self.taken = into, set()
         here = [os.getcwd()] if build == "-" else [os.path.dirname(os.path.abspath(build)), os.path.dirname(os.path.realpath(build)), os.getcwd()]
         self.base, self.allowed = here[0], [os.path.join(os.path.realpath(folder), "") for folder in here]
 
+    def named(self, path):
+        """Returns the name below --into, from that of the object."""
+        return path + self.suffix
+
     def place(self, result):
-        """Returns the path of a unit's dependency file, before it is known whether another has it."""
+        """Returns the path of a unit's file, before it is known whether another has it."""
         command, target = result.command, result.target
         path = os.path.join(command.directory, target)
         if self.into is not None:
             path = os.path.normpath(path)
             inside = not os.path.isabs(target) and path.startswith(os.path.join(self.base, ""))
-            return os.path.join(self.into, os.path.relpath(path, self.base) if inside else path[1:]) + ".d"
+            return os.path.join(self.into, self.named(os.path.relpath(path, self.base) if inside else path[1:]))
         if command.wanted.file not in (None, "", "-"):
             return os.path.join(command.directory, command.wanted.file)
         if os.path.exists(path) and not os.path.isfile(path):
@@ -97,18 +101,18 @@ class Places:
         return os.path.splitext(path)[0] + ".d" if command.wanted.beside else path + ".d"
 
     def own(self, result, number, report):
-        """Returns the path of a unit's own dependency file; a further unit with the path of another gets its number in it."""
+        """Returns the path of a unit's own file; a further unit with the path of another gets its number in it."""
         path = self.place(result)
         if CONTROL.search(path):
-            raise Refused("the name %s can't be that of a dependency file" % path)
+            raise Refused("the name %s can't be that of a file" % path)
         real, first = os.path.realpath(path), path
         while real in self.taken:
-            path = "%s.%d.d" % (path[:-2] if path.endswith(".d") else path, number)
+            path = "%s.%d%s" % (path[:-2] if path.endswith(self.suffix) else path, number, self.suffix)
             real = os.path.realpath(path)
         if path != first:
             # a name that no command asks for can't be missed
             tell = say if self.into is not None or result.command.wanted.file is None else report.add
-            tell("%s: %s is that of another command, so its dependency file is %s" % (result.command.file, first, path))
+            tell("%s: %s is that of another command, so its %s file is %s" % (result.command.file, first, self.suffix, path))
         if self.into is None and not real.startswith(tuple(self.allowed)):
             raise Refused("%s is below neither this directory nor that of the commands (--into names another)" % first)
         self.taken.add(real)

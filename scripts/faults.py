@@ -7,13 +7,13 @@ import sys
 import unicodedata
 
 import explain
-import include_chain
-from common import DONE, GENERATED, PARTLY, Refused, compact, opened, parser, plain, read_list, run, shown, units_of
+from common import DONE, PARTLY, Refused, compact, opened, parser, plain, read_list, run, shown, units, units_of
 from fault_texts import advice, message
+from lists import name_of
 from tokens import Text, Unclear, tokens_of
 
 TEXT = """\
-Print the faults of an output of `cppunits deps` (or `dump`) as compilers do, one for each place where units end:
+Print the faults of an output of `cppunits faults` as compilers do, one for each place where units end:
 
   In file included from src/main.c:2:
   lib/low.h:7:10: error: no such file: word.h [fault 31]
@@ -22,24 +22,31 @@ Print the faults of an output of `cppunits deps` (or `dump`) as compilers do, on
   note: 12 units end here, the first is src/main.c
   note: Give the directory that has it: by `-I` in a build's command, by `search` in a list, whose `files` name it.
 
-LIST is the input of cppunits.  The include lines above a fault are those of the first unit.  They are printed if its
-dependencies and the sources allow only one way; otherwise the unit is named.  The source line is printed if it fits the
-fault.  The place is that of the constant, the macro name or the header name if it is on the line, otherwise that of the
-directive.  Columns count bytes, from 1.  A path below the current directory is relative to it.  <command line> is the
-unit's definitions, one a line.
+LIST is the input of cppunits.  The include lines above a fault are those of the first unit.  The source line is printed
+if it fits the fault.  The place is that of the constant, the macro name or the header name if it is on the line,
+otherwise that of the directive.  Columns count bytes, from 1.  A path below the current directory is relative to it.
+<command line> is the unit's definitions and then its files of `first`, one a line.
+
+More is said of a condition, and of a wrong number of arguments, if the macros' definitions make it certain.  They are
+looked for in all files of the list, or with --deps in those that the unit opened.
 
 Use --format json for a JSON object a line for each place: path, line, column, number, message, advice, text, unit (the
 number of the first), source (the path of its file), units (how many), definition (path, line and column of the macro's
-name, or null) and chain (path and line of each include line, the innermost first, or null).
+name, or null) and chain (path and line of each include line, the innermost first; null for faults 1 to 5 of headers,
+for which they aren't known).
 
 Example:
-  cppunits --root . deps < list.json | faults.py --root . list.json"""
+  cppunits --root . faults < list.json | faults.py --root . list.json"""
 FAULT = re.compile(rb"fault (\d{1,2}) (\d{1,5}):(\d{1,9}):(\d{1,9})(?: (.*))?", re.DOTALL)
+OPENED = re.compile(rb"in (\d{1,5}):(\d{1,9}):(\d{1,9})")
 DEPENDENCY = re.compile(rb"dep (\d{1,5}) (.+)", re.DOTALL)
 COMMAND_LINE, DEFINITIONS = "<command line>", 65535
-UNREADABLE, TOO_DEEP = 6, 32
 # what is at a fault's location: a name for some faults, otherwise the directive's #, which may be written in other ways
 AT_NAMES = range(17, 22)
+# faults of a file that isn't entered for them: cppunits doesn't print the include line that leads to it
+NOT_ENTERED = range(1, 6)
+# faults of which more is said by the definitions of macros
+ABOUT_MACROS = (explain.CONDITION, explain.ARGUMENTS)
 AT_OTHERS = {1: (b"/",), 2: (b"\\", b"??/"), 7: (b"'", b'"')}
 HASHES = (b"#", b"%:", b"??=", b"%\\")
 PLACE, ERROR, NOTE, CARET, PLAIN = "\33[1m", "\33[1;31m", "\33[1;36m", "\33[1;32m", "\33[0m"
@@ -47,25 +54,21 @@ MAX_LETTERS, BEFORE_CARET, MAX_FILE = 200, 100, 16777216
 
 
 class Sources:
-    """Holds a list's files, units and directories, and reads the files."""
+    """Holds a list's files and units, and reads the files."""
 
-    def __init__(self, listed, root, made=None):
+    def __init__(self, listed, root):
         self.root, self.here = os.path.abspath(root), os.getcwd()
-        self.made = self.root if made is None else os.path.abspath(made)
-        self.read, self.split, self.directives, self.macros = {}, {}, {}, {}
+        self.read, self.split, self.macros = {}, {}, {}
         self.files, self.units = listed["files"], listed["units"]
-        self.search, self.once = listed.get("search", []), listed.get("profile") in ("later", "gnu")
         self.profile = listed.get("profile", "c11")
         # whether trigraphs are replaced
         self.trigraphs = self.profile != "gnu"
-        self.names = [row.get("name") if isinstance(row, dict) else None for row in self.files]
-        lists = [self.search] + [unit.get(member, []) for unit in self.units if isinstance(unit, dict)
-                                 for member in ("search", "define")]
-        texts = self.names + [word for words in lists for word in (words if isinstance(words, list) else [None])]
+        self.names = [name_of(row) for row in self.files]
+        lists = [unit.get(member, []) for unit in self.units if isinstance(unit, dict) for member in ("define", "first")]
+        texts = self.names + [name_of(one) for words in lists for one in (words if isinstance(words, list) else [None])]
         texts += [unit.get("file") if isinstance(unit, dict) else None for unit in self.units]
         if not all(isinstance(text, str) for text in texts):
-            raise Refused("the list isn't as docs/FORMAT.md says: a name, a directory or a definition is no text")
-        self.rows, self.finders = {name: row for row, name in enumerate(self.names)}, {}
+            raise Refused("the list isn't as docs/FORMAT.md says: a name or a definition is no text")
 
     def path(self, name):
         """Returns the path of a file as it is printed: relative to the current directory if the file is below it."""
@@ -85,8 +88,7 @@ class Sources:
                 return bytes.fromhex(file["hex"])
             if "text" in file:
                 return file["text"].encode("utf-8", "surrogatepass")
-            root = self.made if file["name"].startswith(GENERATED + "/") else self.root
-            path = os.path.join(os.fsencode(root), as_bytes(file["name"]))
+            path = os.path.join(os.fsencode(self.root), as_bytes(file["name"]))
             if not os.path.isfile(path) or os.path.getsize(path) > MAX_FILE:
                 return None
             with open(path, "rb") as source:
@@ -117,28 +119,30 @@ class Sources:
             self.macros[name, row] = explain.definitions(name, self.lines(row), row, self.trigraphs) if known else []
         return self.macros[name, row]
 
-    def source(self, row):
-        """Returns a file's include lines, or None if they can't be known."""
-        if row not in self.directives:
-            data = self.data(row)
-            try:
-                self.directives[row] = None if data is None else include_chain.Source(data, self.trigraphs)
-            except include_chain.Unclear:
-                self.directives[row] = None
-        return self.directives[row]
-
-    def finder(self, search):
-        """Returns an object that finds the files of include lines, in a unit's directories and then in those of the list."""
-        if tuple(search) not in self.finders:
-            self.finders[tuple(search)] = include_chain.Names(self.names, self.rows, search + self.search)
-        return self.finders[tuple(search)]
-
     def definitions(self, unit):
         return self.units[unit.number].get("define", [])
 
+    def command_lines(self, unit):
+        """Returns a unit's definitions and its files that are read first, as the lines that they stand for."""
+        first = self.units[unit.number].get("first", [])
+        return ["#define " + text for text in self.definitions(unit)] + ['#include "%s"' % name_of(one) for one in first]
+
+    def check(self, agrees, number):
+        """Refuses an output that doesn't belong to the list."""
+        if not agrees:
+            raise Refused("the output isn't that of the list: unit %d or its files are others" % number)
+
+    def opened(self, unit):
+        """Returns the rows of the files that a unit opened, from its lines in the output of `cppunits deps`."""
+        rows = []
+        for found in filter(None, map(DEPENDENCY.fullmatch, unit.lines)):
+            rows.append(int(found[1]))
+            self.check(rows[-1] < len(self.names) and as_bytes(self.names[rows[-1]]) == plain(found[2]), unit.number)
+        return rows
+
 
 class Fault:
-    """Is a unit's fault: its number, location and text."""
+    """Is a unit's fault: its number, location and text, and the locations of the include lines above it, the outermost first."""
 
     def __init__(self, unit, sources):
         found = FAULT.fullmatch(unit.last)
@@ -147,27 +151,20 @@ class Fault:
         self.number, self.row, self.line, self.column = (int(word) for word in found.groups()[:4])
         self.text = plain(found[5] or b"").decode("utf-8", "surrogateescape")
         self.unit, self.sources, self.count = unit, sources, 1
-        self.order = [self.opened_row(line) for line in unit.lines if line.startswith(b"dep ")]
-        # the tokens of a dump aren't needed any more
-        unit.lines = []
-        self.compare(unit.number < len(sources.units) and as_bytes(sources.units[unit.number]["file"]) == unit.name)
-        self.compare(self.row == DEFINITIONS or self.row < len(sources.names))
-
-    def opened_row(self, line):
-        found = DEPENDENCY.fullmatch(line)
-        row, names = int(found[1]) if found else -1, self.sources.names
-        self.compare(0 <= row < len(names) and as_bytes(names[row]) == plain(found[2]))
-        return row
-
-    def compare(self, agrees):
-        """Refuses an output that doesn't belong to the list."""
-        if not agrees:
-            raise Refused("the output isn't that of the list: unit %d or its files are others" % self.unit.number)
+        above = [OPENED.fullmatch(line) for line in unit.lines]
+        if None in above:
+            raise Refused("unit %d: a line that `cppunits faults` doesn't print, whose output is wanted" % unit.number)
+        self.above = [(int(found[1]), int(found[2])) for found in above]
+        # the files in which definitions of macros are looked for
+        self.opened = range(len(sources.names))
+        sources.check(unit.number < len(sources.units) and as_bytes(sources.units[unit.number]["file"]) == unit.name, unit.number)
+        rows = [self.row, *(row for row, _ in self.above)]
+        sources.check(all(row == DEFINITIONS or row < len(sources.names) for row in rows), unit.number)
 
     @property
     def source(self):
         """Returns the path of the file that is compiled."""
-        return self.sources.path(self.unit.source.decode("utf-8", "surrogateescape"))
+        return self.sources.path(self.unit.name.decode("utf-8", "surrogateescape"))
 
     @property
     def path(self):
@@ -178,18 +175,18 @@ class Fault:
 
     def key(self):
         """Returns what two units have in common if the same place ends them."""
-        texts = self.sources.definitions(self.unit)[self.line - 1:self.line] if self.row == DEFINITIONS else ()
+        texts = self.sources.command_lines(self.unit)[self.line - 1:self.line] if self.row == DEFINITIONS else ()
         return self.row, self.line, self.column, self.number, self.text, tuple(texts)
 
     def is_own(self):
         """Returns whether the fault is in the file that is compiled."""
-        return self.row != DEFINITIONS and as_bytes(self.sources.names[self.row]) in (self.unit.name, self.unit.source)
+        return self.row != DEFINITIONS and as_bytes(self.sources.names[self.row]) == self.unit.name
 
     def own_line(self):
         """Returns the source line, or None if no line is there or the line doesn't have what the fault is about."""
         if self.row == DEFINITIONS:
-            texts = self.sources.definitions(self.unit)
-            return ("#define " + texts[self.line - 1]).encode() if 1 <= self.line <= len(texts) else None
+            texts = self.sources.command_lines(self.unit)
+            return as_bytes(texts[self.line - 1]) if 1 <= self.line <= len(texts) else None
         line = self.sources.line(self.row, self.line)
         if line is None or not line.strip():
             return None
@@ -233,40 +230,13 @@ class Fault:
         own = [explain.definition(tokens_of(text), DEFINITIONS)._replace(line=number)
                for number, text in enumerate(map(as_bytes, self.sources.definitions(self.unit)), 1)
                if re.match(re.escape(name) + rb"(?![\w$\x80-\xff])", text)]
-        return own + [one for row in self.order for one in self.sources.definitions_of(name, row)]
+        return own + [one for row in self.opened for one in self.sources.definitions_of(name, row)]
 
     def chain(self):
-        """Returns the path and line of each include line above the fault, the innermost first; None if they aren't certain."""
-        if self.row == DEFINITIONS or not self.order:
-            return []
-        found = self.rows_above()
-        if found is None:
+        """Returns the path and line of each include line above the fault, the innermost first; None if they aren't known."""
+        if self.number in NOT_ENTERED and not self.is_own():
             return None
-        told, inner = [], self.row
-        for row, line in found:
-            name, below = self.sources.names[row], self.sources.names[inner]
-            if not name.startswith(GENERATED + "/"):
-                told.append((self.sources.path(name), line))
-            elif as_bytes(below) != self.unit.source:
-                told.append((COMMAND_LINE, line))
-            inner = row
-        return told
-
-    def rows_above(self):
-        found = {row: self.sources.source(row) for row in self.opened_files()}
-        if self.number in include_chain.READING:
-            found[self.row] = include_chain.Source(b"", self.sources.trigraphs)
-        if self.number == TOO_DEEP or None in found.values():
-            return None
-        listed = self.sources.units[self.unit.number]
-        names = self.sources.finder(listed.get("search", []))
-        pairs = [re.match(rb"([\w$]*)(.*)", as_bytes(text), re.DOTALL).groups() for text in listed.get("define", [])]
-        setting = names, self.opened_files(), found, dict(pairs), self.sources.once
-        return include_chain.chain(*setting, self.number, self.row, self.line)
-
-    def opened_files(self):
-        """Returns the dependencies without one that couldn't be read: its fault is located at the include line."""
-        return self.order[:-1] if self.number == UNREADABLE and len(self.order) > 1 else self.order
+        return [(self.path_of(row), line) for row, line in reversed(self.above)]
 
     def members(self):
         """Returns the members of the fault's JSON object (--format json)."""
@@ -304,14 +274,14 @@ class Fault:
             yield "%s %s" % (set_in(NOTE, "note:"), note)
 
     def lines_above(self, set_in):
-        """Returns the lines before the message: the include lines, or the unit."""
-        chain = self.chain()
-        above = ["%s:%d" % (readable(path), line) for path, line in chain or ()]
+        """Returns the lines before the message: the unit, if neither the place nor an include line is in its file; the include lines."""
+        chain = self.chain() or []
+        if not self.is_own() and (not chain or chain[-1][0] == COMMAND_LINE):
+            yield "In unit %s:" % set_in(PLACE, readable(self.source))
+        above = ["%s:%d" % (readable(path), line) for path, line in chain]
         for at, place in enumerate(above):
             begin = "                 from" if at else "In file included from"
             yield "%s %s%s" % (begin, set_in(PLACE, place), ":" if at == len(above) - 1 else ",")
-        if not above and not self.is_own():
-            yield "In unit %s:" % set_in(PLACE, readable(self.source))
 
 
 def as_bytes(name):
@@ -355,19 +325,22 @@ def blank(one):
     return " " * len(letter(one))
 
 
-def print_faults(listed, output_lines, root=".", to=None, color=False, form="text", made=None):
+def print_faults(listed, output_lines, root=".", to=None, color=False, form="text", deps=None):
     """Prints one report for each place where units end, and returns how many units have a fault.
 
-    listed: the list's object; output_lines: the output of cppunits, as lines of bytes (for example an open binary file); root: the
-    directory that names in the list are relative to; to: a text file; color: whether to print colors; form: `text` or `json`; made: the
-    directory of the files that were generated for the list, if they aren't below the root."""
+    listed: the list's object; output_lines: the output of `cppunits faults`, as lines of bytes (for example an open binary file); root:
+    the directory that names in the list are relative to; to: a text file; color: whether to print colors; form: `text` or `json`; deps: a
+    function from the numbers of units to those units in the output of `cppunits deps`."""
     to, found = sys.stdout if to is None else to, {}
-    sources = Sources(listed, root, made)
+    sources = Sources(listed, root)
     for unit in units_of("the output", output_lines):
         if unit.fault is not None:
             fault = Fault(unit, sources)
             first = found.setdefault(fault.key(), fault)
             first.count += first is not fault
+    about_macros = {fault.unit.number: fault for fault in found.values() if fault.number in ABOUT_MACROS}
+    for unit in deps(list(about_macros)) if deps and about_macros else ():
+        about_macros[unit.number].opened = sources.opened(unit)
     for fault in found.values():
         if form == "json":
             put(to, compact(fault.members()))
@@ -404,15 +377,18 @@ def forms(asked):
 def main():
     asked = parser(TEXT, "some unit has a fault, as for cppunits")
     asked.add_argument("list", metavar="LIST", help="read this list, the input of cppunits; `-` is standard input")
-    asked.add_argument("output", metavar="OUTPUT", nargs="?", default="-", help="read this output of cppunits (default: standard input)")
+    asked.add_argument("output", metavar="OUTPUT", nargs="?", default="-",
+                       help="read this output of `cppunits faults` (default: standard input)")
+    asked.add_argument("--deps", metavar="FILE", help="read the files that units opened from this output of `cppunits deps`")
     asked.add_argument("--root", metavar="DIR", default=".", help="take the list's names relative to this directory (default: the current one)")
     forms(asked)
     words = asked.parse_args()
-    if words.list == words.output == "-":
-        asked.error("the list and the output can't both come from standard input")
+    if [words.list, words.output, words.deps].count("-") > 1:
+        asked.error("only one of the list and the outputs can come from standard input")
     listed = read_list(words.list)
     with opened(words.output) as lines:
-        count = print_faults(listed, lines, words.root, sys.stdout, wants_color(words.color, sys.stdout), words.form)
+        deps = None if words.deps is None else lambda numbers: [unit for unit in units(words.deps) if unit.number in numbers]
+        count = print_faults(listed, lines, words.root, sys.stdout, wants_color(words.color, sys.stdout), words.form, deps)
     return PARTLY if count else DONE
 
 

@@ -1,5 +1,4 @@
 """Finds the files that units can reach: reads their include lines, and looks for each name."""
-import hashlib
 import os
 import re
 import time
@@ -47,18 +46,13 @@ class Files:
     def includes(self, path):
         """Returns the include lines of a file, each as its form and its name."""
         if path not in self.lines:
-            self.stamps[path] = stamp(path)
-            text = joined_lines(content(path), self.gnu)
-            found = include_lines(text, self.gnu) if b"include" in text else []
-            if any(form == COMPUTED for form, _ in found):
-                # it may be in a comment; to see that takes longer
-                seen = include_lines(PASSED.sub(uncommented, text), self.gnu)
-                found = [pair for pair in found if pair[0] != COMPUTED or pair in seen]
-            if self.gnu and b"__has_include" in text:
-                found += [(EACH, os.fsdecode(asked[1] or asked[2])) for asked in ASKED.finditer(text)]
-            self.lines[path] = unique(found)
-            self.operators[path] = operators_in(text)
+            self.lines[path], self.operators[path] = self.seen(path)
         return self.lines[path]
+
+    def seen(self, path):
+        """Returns the include lines of a file on disk, and the names that it may ask a compiler's operators for."""
+        self.stamps[path] = stamp(path)
+        return seen_in(content(path), self.gnu)
 
     def say_trigraphs(self, paths):
         """Reports each of these files that has a trigraph."""
@@ -109,9 +103,9 @@ class Files:
         for folder in folders:
             path = joined(folder, name)
             if self.is_file(path):
-                if ".." in name:
-                    self.report.same(os.path.join(folder, name), path)
                 found.append(path)
+            if ".." in name and (found[-1:] == [path] or os.path.isfile(os.path.join(folder, name))):
+                self.report.same(os.path.join(folder, name), path)
         return found
 
     def reach(self, starts, lookup):
@@ -247,6 +241,7 @@ def is_same(path, stamped):
 
 
 def hashed(data):
+    import hashlib
     return hashlib.blake2b(data, digest_size=16).hexdigest()
 
 
@@ -255,6 +250,19 @@ def joined_lines(text, gnu):
     if not gnu and b"??" in text:
         return SPLICE_OR_TRIGRAPH.sub(b"", text).replace(b"??=", b"#")
     return SPLICE.sub(b"", text) if b"\\\n" in text or b"\\\r\n" in text else text
+
+
+def seen_in(data, gnu):
+    """Returns the include lines of a file with these bytes, and the names that it may ask a compiler's operators for."""
+    text = joined_lines(data, gnu)
+    found = include_lines(text, gnu) if b"include" in text else []
+    if any(form == COMPUTED for form, _ in found):
+        # it may be in a comment; to see that takes longer
+        seen = include_lines(PASSED.sub(uncommented, text), gnu)
+        found = [pair for pair in found if pair[0] != COMPUTED or pair in seen]
+    if gnu and b"__has_include" in text:
+        found += [(EACH, os.fsdecode(asked[1] or asked[2])) for asked in ASKED.finditer(text)]
+    return unique(found), operators_in(text)
 
 
 def joined(folder, name):

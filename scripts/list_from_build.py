@@ -16,8 +16,7 @@ with its definitions and directories, and the files that they can reach.
 These options of a command count: -I, -iquote, -isystem, -idirafter, -D, -U, -include, -x, -o, -Wp and response files.
 -DX becomes `X 1`, and -DX=v becomes `X v`; of several for one name the last counts, as for gcc and clang.  Files are
 found by their include lines, also in skipped groups.  If an include line names a macro, every header below the
-directories is listed, or with --program only the files that cppunits asks for.  -include generates a file that includes
-both, below cppunits-generated/.
+directories is listed, or with --program only the files that cppunits asks for.
 
 Example:  list_from_build.py --root . --output list.json
 
@@ -49,7 +48,8 @@ def options():
     asked.add_argument("--output", metavar="LIST", default="-", help="write the list here (default: standard output)")
     asked.add_argument("--root", metavar="DIR", help="make names relative to this directory")
     asked.add_argument("--inline", action="store_true", help="put the contents of the files into the list")
-    asked.add_argument("--generate", action="store_true", help="write the files for -include below the root")
+    asked.add_argument("--shown", action="store_true",
+                       help="say how the commands spell files and directories, and which are the system's: for `cppunits text`, and __FILE__")
     asked.add_argument("--system", metavar="DIR", action="append", default=[],
                        help="search this directory in each unit after its own, before -idirafter (may be repeated)")
     asked.add_argument("--define", metavar="TEXT", action="append", default=[],

@@ -1,12 +1,13 @@
-"""Makes a list: names below a root, units with their definitions and directories, and generated files."""
+"""Makes a list: names below a root, and units with their definitions, directories and files to read first."""
 import os
+import re
 import time
 
-from commands import defined_name, is_name, unique
-from common import GENERATED, Refused, compact, written
+from commands import defined_name, is_name, is_text, place, unique
+from common import Refused, compact
 from files import Files, Lookup
 
-MAX_NAMES, MAX_INPUT, MAX_FILE = 65535, 268435456, 16777216
+MAX_NAMES, MAX_INPUT, MAX_FILE, MAX_SHOWN, MAX_TOLD = 65535, 268435456, 16777216, 4096, 100
 MONTHS = "Jan Feb Mar Apr May Jun Jul Aug Sep Oct Nov Dec".split()
 
 
@@ -26,28 +27,27 @@ class Additions:
 
 
 class Builder:
-    """Makes a list: rows of names below a root, units, and generated files."""
+    """Makes a list: rows of names below a root, and units.  With `asked.shown` the list says how the commands spell files and directories,
+    and which directories are the system's."""
 
     def __init__(self, asked, report, additions, every=False):
         self.asked, self.report, self.additions = asked, report, additions
         self.files = Files(report, asked.profile == "gnu", every)
-        self.made, self.root, self.paths, self.computing, self.searches = {}, None, [], set(), {}
-        # by search: the names of its directories below the root
+        self.root, self.paths, self.computing, self.searches = None, [], set(), {}
+        # by search: its directories as the list has them
         self.folders = {}
 
     def build(self, all_commands):
         """Returns the rows of all gathered files, and these commands with their units."""
-        self.made, self.folders = {}, {}
+        self.folders = {}
         self.root = os.path.abspath(self.asked.root) if self.asked.root else self.common(self.paths, all_commands)
         names = {path: name for path in self.paths if (name := self.name(path)) is not None}
         pairs = [(command, unit) for command in all_commands if (unit := self.unit(command, names)) is not None]
-        files = [self.row(path, name) for path, name in names.items()] + list(self.made.values())
-        rows = [row for row in files if row is not None]
+        rows = [row for path, name in names.items() if (row := self.row(path, name)) is not None]
         if len(rows) > MAX_NAMES or len(pairs) > MAX_NAMES:
             raise Refused("%d names and %d units: a list has at most %d of each" % (len(rows), len(pairs), MAX_NAMES))
         listed = {row["name"] for row in rows}
-        pairs = [(command, unit) for command, unit in pairs if unit["file"] in listed]
-        return rows, pairs
+        return rows, [(command, unit) for command, unit in pairs if listed.issuperset([unit["file"], *map(name_of, unit["first"])])]
 
     def gather(self, all_commands):
         """Finds all files that the units reach, each once; `computing` gets the units that reach an include line whose name a macro makes."""
@@ -95,8 +95,26 @@ class Builder:
         return self.searches[command]
 
     def first_of(self, command, word):
-        """Returns the file of an -include: looked for in the command's own directory first, then as a name in quotes."""
-        return self.files.first((command.directory, *self.search(command)[0]), word)
+        """Returns the file of an -include, or None."""
+        return self.found_first(command, word)[0]
+
+    def found_first(self, command, word):
+        """Returns the file of an -include, or None, how its compiler spells it, and whether it is the system's.
+
+        It is looked for in the command's own directory first, then as a name in quotes."""
+        if os.path.isabs(word):
+            return self.files.first(("/",), word.lstrip("/")), word, False
+        for folder, shown, system in [(command.directory, "./", False), *self.shown_search(command)]:
+            path = self.files.first((folder,), word)
+            if path is not None:
+                return path, shown + ("" if shown.endswith("/") else "/") + word, system
+        return None, word, False
+
+    def shown_search(self, command):
+        """Returns a command's directories, each with its spelling and whether it is the system's."""
+        search, quotes = self.search(command)
+        system = {place(folder) for folder in command.late(self.additions.folders(command))}
+        return tuple((folder, command.spelled.get(folder, folder), number >= quotes and place(folder) in system) for number, folder in enumerate(search))
 
     def common(self, paths, all_commands):
         folders = {os.path.dirname(path) for path in paths}
@@ -124,14 +142,28 @@ class Builder:
         file = names.get(command.file)
         if file is None:
             return None
-        first = [self.included_first(command, word, names) for word in command.includes]
-        first = [name for name in first if name is not None]
-        search = self.search(command)[0]
+        search = self.shown_search(command)
         if search not in self.folders:
-            self.folders[search] = [name for folder in search if (name := self.folder(folder)) is not None]
-        return {"file": self.made_of(file, tuple(first), command) if first else file,
+            self.folders[search] = [self.shown(name, *words) for folder, *words in search if (name := self.folder(folder)) is not None]
+        return {"file": file,
                 "define": self.defined(command),
-                "search": self.folders[search]}
+                "first": [name for word in command.includes if (name := self.included_first(command, word, names)) is not None],
+                "search": self.folders[search],
+                "shown": self.spelling(command.spelled[command.file]) if self.asked.shown else None}
+
+    def shown(self, name, spelled, system):
+        """Returns a directory, or a file that is read first, as the list has it."""
+        if not self.asked.shown:
+            return name
+        found = {"name": name, "shown": self.spelling(spelled), "system": system}
+        return {member: value for member, value in found.items() if value}
+
+    def spelling(self, word):
+        """Returns a spelling if the list can have it, otherwise None, which is reported."""
+        if is_text(word) and re.fullmatch("[^\x00-\x1f\x7f]+", word) and len(word.encode()) <= MAX_SHOWN:
+            return word
+        self.report.add("%s%s: no name that a list may show" % (word[:MAX_TOLD], "..." if len(word) > MAX_TOLD else ""))
+        return None
 
     def defined(self, command):
         """Returns a command's definitions; before them the ones for all units, without names that the command itself defines or undefines."""
@@ -146,33 +178,12 @@ class Builder:
         return name
 
     def included_first(self, command, word, names):
-        path = self.first_of(command, word)
+        path, *words = self.found_first(command, word)
         name = names.get(path)
         if name is None:
             self.report.add("%s: -include %s: there is no such file" % (command.file, word))
             return None
-        if not (self.asked.inline or self.asked.generate):
-            self.report.add("%s: -include %s needs --inline or --generate" % (command.file, word))
-            return None
-        return name
-
-    def made_of(self, file, first, command):
-        """Returns the name of a generated file that includes these files and then the unit's."""
-        key = (file, first)
-        if key in self.made:
-            return self.made[key]["name"]
-        name = "%s/%d/%s" % (GENERATED, len(self.made), file)
-        if not is_name(name) or any('"' in word for word in (*first, file)):
-            self.report.add("%s: -include %s: a name that no include line can ask for" % (command.file, " ".join(first)))
-            return file
-        up = "../" * name.count("/")
-        text = "".join('#include "%s%s"\n' % (up, word) for word in (*first, file))
-        self.made[key] = {"name": name, "text": text} if self.asked.inline else {"name": name}
-        if self.asked.generate:
-            where = self.root if self.asked.generate is True else self.asked.generate
-            with written(os.path.join(where, name)) as made:
-                made.write(text.encode())
-        return name
+        return self.shown(name, *words)
 
     def row(self, path, name):
         """Returns a file's row in the list, or None if its content is too long for a list."""
@@ -187,6 +198,11 @@ class Builder:
             return {"name": name, "text": data.decode()}
         except UnicodeDecodeError:
             return {"name": name, "hex": data.hex()}
+
+
+def name_of(one):
+    """Returns the name of a directory or file of a list, which may be a member of an object."""
+    return one.get("name") if isinstance(one, dict) else one
 
 
 def now():

@@ -1,12 +1,8 @@
 """Runs cppunits over a list, and learns from these runs the names of headers that macros make."""
-import contextlib
 import os
-import select
-import subprocess
-import tempfile
 
 from commands import unique
-from common import GENERATED, Refused, plain, units
+from common import Refused, plain, units
 from lists import bytes_of, list_of
 
 MAX_ROUNDS, PIECE, MOMENT = 64, 4194304, 0.1
@@ -26,12 +22,14 @@ class Program:
 
     def pieces(self, word, listed, root):
         """Runs the program, and yields its output in pieces that end with whole lines; units with faults are no failure."""
+        import subprocess
+        import tempfile
         path = os.path.join(self.folder, "list.json")
         with open(path, "wb") as file:
             file.write(bytes_of(listed))
         words = [self.path, *(["--workers", str(self.workers)] if self.workers else [])]
         if not any("text" in row or "hex" in row for row in listed["files"]):
-            words += ["--root", self.over(listed, root)]
+            words += ["--root", root]
         with open(path, "rb") as given, tempfile.TemporaryFile() as errors:
             try:
                 process = subprocess.Popen([*words, word], stdin=given, stdout=subprocess.PIPE, stderr=errors)
@@ -53,19 +51,10 @@ class Program:
             reason = STATUSES.get(status, "status %d" % status)
             raise Refused("%s: %s%s" % (self.path, reason, message and ": " + message))
 
-    def over(self, listed, root):
-        """Returns the root; if files were generated, a directory with them and with links to what is in the root."""
-        made = os.path.join(self.folder, "root")
-        if not os.path.isdir(os.path.join(made, GENERATED)):
-            return root
-        for name in {row["name"].split("/", 1)[0] for row in listed["files"]}:
-            with contextlib.suppress(FileExistsError):
-                os.symlink(os.path.join(root, name), os.path.join(made, name))
-        return made
-
 
 def whole_lines(stream):
     """Yields what comes through a pipe, in pieces that end with whole lines; it waits in short steps, so that it sees an interrupt."""
+    import select
     rest, data = b"", b"\n"
     while data:
         if not select.select([stream], [], [], MOMENT)[0]:

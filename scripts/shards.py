@@ -3,6 +3,7 @@
 import argparse
 import contextlib
 import hashlib
+import itertools
 import os
 import re
 import shutil
@@ -35,7 +36,7 @@ MARKED = re.compile(rb"fault 11 65535:\d+:\d+ cppunits_part_(\d{1,5})_of_(\d{1,5
 OTHER = re.compile(rb"[^ -~]|%(?![0189A-F][0-9A-F]|25|7F)")
 PLACE = rb"\d{1,5}:\d{1,10}:\d{1,10}"
 NAME = re.compile(rb".+")
-ITEM = re.compile(rb"p?tok %s %s [incspo][+-] .+|prag %s" % (PLACE, PLACE, PLACE))
+ITEM = re.compile(rb"p?tok %s %s [incspo][+-] .+|(?:prag|in) %s" % (PLACE, PLACE, PLACE))
 DEPENDENCY = re.compile(rb"dep \d{1,5} .+")
 LAST = re.compile(rb"ok|fault \d{1,2} %s(?: .+)?" % PLACE)
 
@@ -136,8 +137,10 @@ def join(asked):
 
 def check(path, unit):
     """Refuses a unit with a line that cppunits doesn't print."""
+    # the lines of a text have any bytes
+    texts = len(list(itertools.takewhile(lambda line: line.startswith(b"|"), unit.lines)))
     items = sum(not line.startswith(b"dep ") for line in unit.lines)
-    for form, lines in (NAME, [unit.printed]), (ITEM, unit.lines[:items]), (DEPENDENCY, unit.lines[items:]), (LAST, [unit.last]):
+    for form, lines in (NAME, [unit.printed]), (ITEM, unit.lines[texts:items]), (DEPENDENCY, unit.lines[items:]), (LAST, [unit.last]):
         if not all(map(form.fullmatch, lines)) or any(map(OTHER.search, lines)):
             line = next(line for line in lines if not form.fullmatch(line) or OTHER.search(line))
             raise Refused("%s: unit %d has a line that cppunits doesn't print: %s" % (path, unit.number, line[:60].decode("latin-1")))

@@ -1,0 +1,236 @@
+"""Makes the text of a C file by cppunits, as the command line of a compiler asks for it."""
+import os
+import re
+import sys
+import types
+
+from commands import Command, at, is_folder, place
+from common import Refused, say, units_of
+from compilers import CompilerAdditions
+from files import PASSED, TRIGRAPH, content, uncommented
+from front import MARKER, is_special, paths_of, run
+from kept import VARIABLES, Cache, KeptCompilers, KeptFiles, cache_folder
+from lists import Builder, bytes_of, list_of
+from runs import MAX_ROUNDS, STATUSES, MissingFiles
+
+FACTS = types.SimpleNamespace(inline=False, shown=True, budget=None, date=None, time=None, root="/", profile="gnu", system=(), define=())
+# variables that have directories for headers
+PATHS = VARIABLES[:2]
+HOSTED = b"__STDC_HOSTED__"
+
+
+class Stopped(Exception):
+    """Says that a unit has no text: in a line, or by the function that prints its fault."""
+
+    def __init__(self, line, tell=None):
+        super().__init__(line)
+        self.tell = tell or (lambda: print(line, file=sys.stderr))
+
+
+class Notes:
+    """Holds what a list can't express.  What is said of a file counts only if the unit opens that file."""
+
+    def __init__(self):
+        self.lines, self.files = [], []
+
+    def add(self, line):
+        if "__STDC_HOSTED__ is 0" not in line:
+            self.lines.append(line)
+
+    def same(self, asked, taken):
+        """Notes a path where removing `..` by name gives another file than the disk does."""
+        if ".." in asked and place(asked) != place(taken):
+            line = "%s: behind a symbolic link; %s would be taken" % (asked, taken)
+            if os.path.isfile(taken):
+                self.files.append((taken, line))
+            else:
+                # it is a directory, or what is taken isn't there, so that another may be
+                self.lines.append(line)
+
+
+class Unit:
+    """Is a C file with its command and its text."""
+
+    def __init__(self, source, command, text, builder):
+        self.source, self.command, self.text, self.builder = source, command, text, builder
+
+    def names(self, system):
+        """Returns the names of its dependencies as a compiler has them, its own file first; those of the system only if they are asked for."""
+        found = {self.source.name: None}
+        if system and self.has_first():
+            found.update(dict.fromkeys(path for path in map("%s/stdc-predef.h".__mod__, self.builder.additions.folders(self.command)) if os.path.isfile(path)))
+        for marker in MARKER.finditer(self.text):
+            flags = marker[2].split()
+            if b"1" in flags and (system or b"3" not in flags):
+                name = os.fsdecode(re.sub(rb"\\(.)", rb"\1", marker[1]))
+                while name.startswith("./"):
+                    name = name[2:].lstrip("/")
+                found[name] = None
+        return list(found)
+
+    def tell_search(self):
+        """Prints the directories in the form of gcc -v, which CMake reads."""
+        folders = [" " + folder for folder in self.builder.search(self.command)[0]]
+        quotes = self.builder.search(self.command)[1]
+        lines = ['#include "..." search starts here:', *folders[:quotes], "#include <...> search starts here:", *folders[quotes:], "End of search list."]
+        print("\n".join(lines), file=sys.stderr, flush=True)
+
+    def has_first(self):
+        """Returns whether the compiler itself reads stdc-predef.h first, whose macros are among its own."""
+        answer = self.builder.additions.compilers.answer(self.command)
+        return answer.hosted and "__clang__" not in answer.macros
+
+
+class Maker:
+    """Makes units, with what they share: the program, the compiler's answers, and what the cache has."""
+
+    def __init__(self, front):
+        # whether an input was read that can't be read again
+        self.front, self.cache, self.taken = front, Cache(cache_folder()), False
+        self.program = self.found_program()
+        for name in PATHS:
+            if any(not os.path.isabs(folder) for folder in os.environ.get(name, "/").split(os.pathsep)):
+                raise Refused("%s names a relative directory, which isn't supported" % name)
+        self.compilers, self.files = KeptCompilers(Notes(), front.real.path, self.cache), KeptFiles(None, self.cache)
+
+    def found_program(self):
+        """Returns the path of cppunits."""
+        named = os.environ.get("CPPUNITS", "")
+        beside = os.path.join(os.path.dirname(os.path.realpath(self.front.own)), "cppunits")
+        for name in [named] if named else [beside, "cppunits"]:
+            for path in paths_of(name):
+                return path
+        raise Refused("there is no program %s (CPPUNITS names one)" % (named or "cppunits"))
+
+    def keep(self):
+        self.compilers.keep()
+        self.files.keep()
+
+    def unit(self, source):
+        """Returns the unit of an input, with its text; a unit without one is stopped."""
+        notes = Notes()
+        command, builder = self.command(source, notes)
+        unit, listed = self.run(command, builder)
+        opened = ["/" + listed["files"][int(line.split(b" ", 2)[1])]["name"] for line in unit.lines if line.startswith(b"dep ")]
+        wrong = notes.lines + self.compilers.report.lines
+        if not wrong and unit.fault is None:
+            wrong = list(self.wrong_files(command, builder, set(opened)))
+        if wrong:
+            lines = [line[len(command.file) + 2:] if line.startswith(command.file + ": ") else line for line in wrong]
+            raise Stopped("\n".join("%s: error: %s [cppunits]" % (source.name, line) for line in lines))
+        if unit.fault is not None:
+            number = unit.fault.split(" ")[0]
+            raise Stopped("%s: fault %s of cppunits" % (source.name, number), lambda: self.tell(listed, unit))
+        self.check_names(source.name, unit.text)
+        return Unit(source, command, unit.text, builder)
+
+    def check_names(self, name, text):
+        """Refuses a text that has `__FILE__` of a file whose name the compiler would change there."""
+        for option, sign, value in (word.partition("=") for word in self.front.asked.words):
+            if sign and option in ("-fmacro-prefix-map", "-ffile-prefix-map"):
+                old = re.escape(os.fsencode(value.rpartition("=")[0]).replace(b"\\", b"\\\\").replace(b'"', b'\\"'))
+                if re.search(b'^(?!# ).*"' + old, text, re.MULTILINE):
+                    raise Stopped("%s: error: %s isn't supported for its __FILE__" % (name, option))
+
+    def command(self, source, notes):
+        """Returns the command of an input, and a builder for its list."""
+        path, front = at(self.front.cwd, source.name), self.front
+        special = is_special(source.name)
+        if not special and place(source.name) != place(path):
+            raise Refused("%s: behind a symbolic link; %s would be taken" % (source.name, path))
+        if special:
+            self.taken = True
+            path = front.folder.write(os.path.basename(source.name) + ".c", special_content(source.name))
+        command = Command({"directory": front.cwd, "arguments": [front.real.path, *front.real.words, *front.asked.words], "file": path}, notes)
+        command.spelled[path] = "<stdin>" if source.name == "-" else source.name
+        if special:
+            # names in quotes are looked for here
+            command.folders["quote"].insert(0, front.cwd)
+            command.spelled.setdefault(front.cwd, ".")
+        shown = command.spelled[path].replace("\\", "\\\\").replace('"', '\\"')
+        command.definitions.setdefault("__BASE_FILE__", '__BASE_FILE__ "%s"' % shown)
+        if self.front.real.is_clang():
+            command.definitions.setdefault("__building_module", "__building_module(x) 0")
+        builder = Builder(FACTS, notes, CompilerAdditions(self.compilers, FACTS), True)
+        builder.files = self.files
+        self.files.report = notes
+        return command, builder
+
+    def run(self, command, builder):
+        """Runs cppunits until the unit asks for no more files under names that macros make; returns the unit as it is printed, and the list."""
+        for _ in range(MAX_ROUNDS):
+            builder.gather([command])
+            self.compilers.learn(builder.files.names_for_operators(builder.paths))
+            if self.compilers.report.lines:
+                raise Refused(self.compilers.report.lines[0])
+            rows, pairs = builder.build([command])
+            if not pairs:
+                raise Refused("; ".join(builder.report.lines) or "%s: no list can have this unit" % command.file)
+            listed = list_of(FACTS, rows, pairs)
+            unit = self.output("text", listed)
+            if command not in builder.computing:
+                break
+            missing, names = MissingFiles(builder), ["/" + row["name"] for row in rows]
+            found = [names[int(line.split(b" ", 2)[1])] for line in unit.lines if line.startswith(b"dep ")]
+            more = missing.of_files(command, found) + missing.of_fault(command, unit.fault, names)
+            for pair in more:
+                builder.files.settle(*pair)
+            if not more:
+                break
+        return unit, listed
+
+    def output(self, mode, listed):
+        """Returns what cppunits prints of the unit."""
+        status, output = run([self.program, "--workers", "1", "--root", "/", mode], bytes_of(listed))
+        if status not in (0, 1):
+            raise Refused("%s: %s" % (self.program, STATUSES.get(status, "status %d" % status)))
+        if mode == "faults":
+            return output
+        if not output:
+            raise Refused("%s: it prints no unit" % self.program)
+        head, text, rest = parts(output)
+        unit = next(units_of("the output of %s" % self.program, [head, *rest.splitlines(True)]))
+        unit.text = text
+        return unit
+
+    def tell(self, listed, unit):
+        """Prints the unit's fault."""
+        from faults import print_faults, wants_color
+        lines = self.output("faults", listed).splitlines(True)
+        print_faults(listed, lines, "/", sys.stderr, wants_color("auto", sys.stderr), "text", lambda numbers: [unit] if numbers else [])
+
+    def wrong_files(self, command, builder, opened):
+        """Yields what is wrong with files that the unit opened: the list can't say what the compiler does with them."""
+        yield from (line for path, line in builder.report.files if path in opened)
+        for (path, name), found in builder.files.shadows.items():
+            if found in opened:
+                yield "%s: <%s> is found in an -iquote directory, as %s" % (path, name, found)
+        hosted = self.compilers.answer(command).hosted
+        if hosted and not command.trigraphs:
+            return
+        for path in opened:
+            data = content(path)
+            if not hosted and HOSTED in data:
+                yield "%s: tests __STDC_HOSTED__, which is 0 under the command's options, and 1 for cppunits" % path
+            if command.trigraphs and TRIGRAPH.search(data) and TRIGRAPH.search(PASSED.sub(uncommented, data)):
+                yield "%s: has a trigraph, which the compiler replaces, and cppunits doesn't under gnu" % path
+
+
+def parts(output):
+    """Returns the first line of a unit as `cppunits text` prints it, its text, and the lines behind that."""
+    head, end, rest = output.partition(b"\n")
+    last = (b"\n" + rest).rfind(b"\n|")
+    if last < 0:
+        return head + end, b"", rest
+    behind = rest.index(b"\n", last) + 1
+    return head + end, rest[1:behind].replace(b"\n|", b"\n"), rest[behind:]
+
+
+def special_content(name):
+    """Returns what a device, a pipe or standard input has."""
+    if name == "-":
+        return sys.stdin.buffer.read()
+    if is_folder(name):
+        raise Refused("%s: it is a directory" % name)
+    with open(name, "rb") as file:
+        return file.read()
