@@ -1,12 +1,12 @@
 #!/bin/sh
-# The full check.  First `rt ci`, and whether the crates' tests call each public function.  Then tests of the program that
-# it builds: rows of conditions, macro replacement, files, budgets and tokens; files compared with plain passes of phases 1
-# and 2; the tests of the scripts; the examples of the README and of docs/; what docs/ says of the crates; cut texts and
-# lists; the limits that take no seconds (names, contents of a directory, includes, conditions, arguments, `#line`, options,
-# units, files, contents of a list, definitions); which lists are refused, and the output for the others; all depths at once
-# in a small stack; streams and files that fail; and runs with refused memory.  The last line is `N passed, N failed` for
-# all of it.  Before it stand the missed tests, each with the missing program and its Debian package.  Longer tests are in
-# tests/hostile.sh.
+# The full check.  First `rt ci`, and whether the crates' tests call each public function.  Then tests of the program
+# that it builds: rows of conditions, macro replacement, files, budgets and tokens; texts that are read back and
+# compiled; files compared with plain passes of phases 1 and 2; the tests of the scripts; the examples of the README and
+# of docs/; what docs/ says of the crates; cut texts and lists; the limits that take no seconds (names, contents of a
+# directory, includes, conditions, arguments, `#line`, options, units, files, contents of a list, definitions); which
+# lists are refused, and the output for the others; all depths at once in a small stack; streams and files that fail;
+# and runs with refused memory.  The last line is `N passed, N failed` for all of it.  Before it stand the missed tests,
+# each with the missing program and its Debian package.  Longer tests are in tests/hostile.sh.
 #
 #     tests/all.sh [PROGRAM]     with a PROGRAM, no `rt ci`: only the other tests, of this program
 case ${1:-/} in
@@ -85,7 +85,7 @@ else
         export RT_JOBS
     fi
     count rt ci
-    CPPUNITS=crates/cppunits/out/cppunits
+    CPPUNITS=$PWD/crates/cppunits/out/cppunits
 fi
 export CPPUNITS
 if has python3 "the tests of the scripts and documents"; then
@@ -93,9 +93,11 @@ if has python3 "the tests of the scripts and documents"; then
     begin python3 tests/row_tests.py
     begin python3 tests/gnu_tests.py
     begin python3 tests/token_tests.py
+    begin python3 tests/text_tests.py
     begin python3 tests/phase_tests.py
     begin python3 tests/list_tests.py
     begin python3 tests/build_tests.py
+    begin python3 tests/front_tests.py
     begin python3 tests/deps_tests.py
     begin python3 tests/scripts_tests.py
     begin python3 tests/faults_tests.py
@@ -105,6 +107,7 @@ if has python3 "the tests of the scripts and documents"; then
     begin python3 tests/docs_specification.py
     begin python3 tests/house_tests.py
     begin python3 tests/serving_tests.py
+    begin python3 tests/marks_tests.py
     begin python3 tests/truncated.py
     begin python3 tests/hostile_limits.py -k test_a_name -k test_units -k test_files -k test_a_content -k test_definitions -k Text. -k Options.
     begin python3 tests/hostile_stack.py -k Stack.

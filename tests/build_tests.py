@@ -333,7 +333,7 @@ class Lists(Builds):
         write(self.top, {"a.c": "#if 0\n#include <none.h>\n#endif\n", "b.c": "\n#include \"gone%d.h\"\n"})
         printed, messages = self.build("faults", ["gcc -c a.c", ("gcc -c b.c", "b.c")], status=1)
         self.assertEqual(printed.splitlines()[:2], ["b.c:2:10: error: no such file: gone%d.h [fault 31]", "    2 | #include \"gone%d.h\""])
-        self.assertRegex("\n".join(messages), r"^build.py: 2 units, 1 with a fault, 2 files \(2 on the list\), \S+ seconds$")
+        self.assertRegex("\n".join(messages), r"^build.py: 2 units, 1 with a fault, 2 files on the list, \S+ seconds$")
 
     def test_the_lines_above_a_fault(self):
         """Tests this also for a file of -include, and for the JSON form."""
@@ -341,8 +341,9 @@ class Lists(Builds):
         commands = [["gcc", "-include", name, "-c", "a.c"] for name in ("good.h", "first.h")]
         printed, _ = self.build("faults", commands, status=1)
         places = [line for line in printed.splitlines() if ":" in line and not line.startswith("note: ")]
-        self.assertEqual(places, ["In file included from a.c:2:", "own.h:1:1: error: #error no [fault 34]",
-                                  "In file included from <command line>:1:", "first.h:1:1: error: #error first [fault 34]"])
+        places = [re.sub("line>:[0-9]+", "line>:N", line) for line in places]
+        self.assertEqual(places, ["In file included from a.c:2:", "own.h:1:1: error: #error no [fault 34]", "In unit a.c:",
+                                  "In file included from <command line>:N:", "first.h:1:1: error: #error first [fault 34]"])
         printed, _ = self.build("faults", commands, "--format", "json", status=1)
         found = [json.loads(line) for line in printed.splitlines()]
         self.assertEqual([(fault["path"], fault["source"], fault["chain"][0]["path"]) for fault in found],
@@ -353,7 +354,7 @@ class Lists(Builds):
         tokens, messages = self.tokens(["gcc -include cfg.h -c a.c"], "--list", "list.json")
         self.assertEqual((tokens, len(messages)), ([["cfg", "1"]], 1))
         with open(self.path("list.json"), "rb") as file:
-            self.assertIn(b" i+ cfg\n", cppunits("dump", stdin=file).stdout)
+            self.assertIn(b" i+ cfg\n", cppunits("--root", "/", "dump", stdin=file).stdout)
         self.build("deps", ["gcc -include cfg.h -o x.o -c a.c"])
         with open(self.path("x.o.d")) as file:
             self.assertEqual(file.read(), "x.o: \\\n  a.c \\\n  cfg.h\n")
@@ -377,7 +378,7 @@ class Lists(Builds):
     def test_a_directory_that_is_missing(self):
         entries = [{"directory": folder, "file": self.path("a.c"), "command": "gcc -c a.c"} for folder in (self.top, self.path("gone"))]
         write(self.top, {"c.json": json.dumps(entries)})
-        for task, status in ("faults", 1), ("deps", 1), ("dump", 1):
+        for task, status in ("faults", 1), ("deps", 1), ("dump", 1), ("text", 1):
             done = run(self.words(task, "c.json"), cwd=self.top, env=self.environment())
             self.assertEqual(done.returncode, status)
             messages = done.stderr.decode().splitlines()
@@ -387,7 +388,7 @@ class Lists(Builds):
 
     def test_no_unit_at_all(self):
         """Wants a refusal that says why."""
-        for task in "deps", "dump", "faults":
+        for task in "deps", "dump", "faults", "text":
             self.assertEqual(self.build(task, [], status=3)[1], ["build.py: compile_commands.json: there is no C unit among its 0 commands"])
             messages = self.build(task, [("gcc -c none.c", "none.c"), ("g++ -c b.cc", "b.cc")], status=3)[1]
             self.assertEqual(messages[0], "build.py: %s: there is no such file (is it made by the build?)" % self.path("none.c"))
@@ -414,6 +415,68 @@ class Lists(Builds):
         self.assertLess(time.monotonic() - began, 60)
         self.assertEqual((printed, len(self.asked())), ("", 9))
         self.assertIn("5000 units, 0 with a fault, 5101 files", messages[0])
+
+
+class Texts(Builds):
+    """Tests the texts of `build.py text`; what compilers make of them is in text_tests.py."""
+
+    def setUp(self):
+        super().setUp()
+        self.compiler("bin/gcc")
+
+    def text(self, name):
+        with open(self.path(name)) as file:
+            return file.read()
+
+    def test_files_by_the_names_of_objects(self):
+        write(self.top, {"d/b.c": "#include \"b.h\"\n", "d/b.h": "b\n"})
+        commands = [("gcc -c d/b.c -o o/b.lo", "d/b.c"), "gcc -c a.c", ("gcc -c ./d/b.c -o o/b.o", "d/b.c"), ("gcc -c d/b.c -o d/b.c.o", "d/b.c"),
+                    ("gcc -c %s/d/b.c -o /elsewhere/b.o" % self.top, "d/b.c")]
+        printed, messages = self.build("text", commands, "--into", "t")
+        self.assertEqual((printed, len(messages)), ("", 2))
+        self.assertIn("t/o/b.i is that of another command, so its .i file is t/o/b.2.i", messages[0])
+        found = sorted(os.path.relpath(os.path.join(folder, name), self.path("t")) for folder, _, names in os.walk(self.path("t")) for name in names)
+        self.assertEqual(found, ["a.i", "d/b.c.i", "elsewhere/b.i", "o/b.2.i", "o/b.i"])
+        self.assertEqual(self.text("t/a.i"), '# 1 "a.c"\n# 1 "%s/sys/sys.h" 1 3\nint sys;\n# 2 "a.c" 2\n1\n' % self.top)
+        for name, begin in ("o/b", "d/b"), ("o/b.2", "./d/b"), ("elsewhere/b", self.top + "/d/b"):
+            self.assertEqual(self.text("t/%s.i" % name), '# 1 "%s.c"\n# 1 "%s.h" 1\nb\n# 2 "%s.c" 2\n' % (begin, begin, begin))
+        # a further run writes the same
+        self.build("text", commands, "--into", "t")
+        self.assertEqual(self.text("t/elsewhere/b.i"), self.text("t/elsewhere/b.i"))
+
+    def test_the_stream(self):
+        printed, _ = self.build("text", ["gcc -c a.c", "gcc -DWHO=2 -c ./a.c"])
+        self.assertEqual([line[1:] for line in printed.splitlines() if line[:1] == "|" and line[1:2] != "#"], ["int sys;", "1", "int sys;", "2"])
+        self.build("text", ["gcc -c a.c", "gcc -DWHO=2 -c ./a.c"], "--output", "out")
+        self.assertEqual(self.text("out"), printed)
+        self.assertEqual(re.findall(r'^\|# 1 "(\S*a.c)"$', printed, re.M), ["a.c", "./a.c"])
+
+    def test_a_fault(self):
+        """Wants no text, and an older one to stay."""
+        write(self.top, {"b.c": "#error no\n", "t/b.i": '# 1 "old"\n'})
+        printed, messages = self.build("text", [("gcc -c b.c", "b.c"), "gcc -c a.c"], "--into", "t", status=1)
+        self.assertEqual((printed, messages[0]), ("", "build.py: %s/b.c: fault 34, so there is no text (`build.py faults` says more)" % self.top))
+        self.assertRegex(messages[1], "^build.py: 2 units, 1 with a fault, ")
+        self.assertEqual((sorted(os.listdir(self.path("t"))), self.text("t/b.i")), (["a.i", "b.i"], '# 1 "old"\n'))
+
+    def test_files_that_can_not_be_written(self):
+        """Wants a line for each, and the other texts."""
+        write(self.top, {"t/a.i": "%module a\n", "t/c.i/x": "", "b.c": "b\n", "c.c": "c\n"})
+        _, messages = self.build("text", ["gcc -c a.c", ("gcc -c b.c", "b.c")], "--into", "t", status=1)
+        self.assertEqual(messages[0], "build.py: %s/a.c: t/a.i is there and is no text of a compiler's preprocessor, so it stays" % self.top)
+        self.assertEqual((self.text("t/a.i"), self.text("t/b.i")), ("%module a\n", '# 1 "b.c"\nb\n'))
+        _, messages = self.build("text", [("gcc -c c.c", "c.c"), ("gcc -c b.c", "b.c")], "--into", "t", status=5)
+        self.assertEqual(messages[0], "build.py: %s/c.c: t/c.i: Is a directory" % self.top)
+        _, messages = self.build("text", [(["gcc", "-c", "b.c", "-o", "b\n.o"], "b.c")], "--into", "t", status=1)
+        self.assertEqual(messages[0], "build.py: %s/b.c: the name t/b%%0A.i can't be that of a file" % self.top)
+        self.assertEqual(sorted(os.listdir(self.path("t"))), ["a.i", "b.i", "c.i"])
+
+    def test_names_that_can_not_be_shown(self):
+        """Wants a line about each, and the name in the list in its place."""
+        write(self.top, {"d/h.h": "__FILE__\n", "b.c": "#include <h.h>\n"})
+        printed, messages = self.build("text", [(["gcc", "-I" + "./" * 2100 + "d", "-c", "b.c"], "b.c")], status=1)
+        self.assertRegex(messages[0], r"^build.py: [./]{100}\.\.\.: no name that a list may show$")
+        self.assertIn('\n|"%s/d/h.h"\n' % self.top[1:], printed)
 
 
 class Runs(Builds):
@@ -454,7 +517,7 @@ class Runs(Builds):
         for number in signal.SIGINT, signal.SIGTERM, signal.SIGHUP:
             for compiler, word in (COMPILER, self.path("bin/slow")), (slow, program()):
                 self.compiler("bin/gcc", compiler)
-                for task, more in ("dump", ["--output", "out"]), ("deps", ["--into", "d"]):
+                for task, more in ("dump", ["--output", "out"]), ("deps", ["--into", "d"]), ("text", ["--output", "out"]), ("text", ["--into", "d"]):
                     with self.subTest(number=number, word=word, task=task):
                         self.interrupted([sys.executable, BUILD, task, "--program", word, *more], number)
         with open(self.path("out")) as file:
@@ -503,7 +566,7 @@ class Runs(Builds):
             self.assertEqual((done.returncode, done.stderr.decode(), os.path.exists(self.path("a.o.d"))), (3, line, False))
         self.assertEqual(run(self.words("faults", "none.json"), cwd=self.top).returncode, 5)
         for words in (["--none"], [], ["dump", "--workers", "0"], ["deps", "--workers", "65"], ["deps", "--seconds", "x"], ["--seconds", "x", "deps"],
-                      ["--phony", "dump"], ["c.json", "deps"], ["--workers"]):
+                      ["--phony", "dump"], ["c.json", "deps"], ["--workers"], ["dump", "--into", "d"], ["text", "--into", "d", "--output", "out"]):
             done = run([sys.executable, BUILD, *words])
             self.assertEqual((done.returncode, done.stdout, done.stderr.count(b"\n")), (2, b"", 1), words)
         for words in ["--help"], ["deps", "--help"], ["--workers", "3", "deps", "--help"]:

@@ -95,7 +95,7 @@ class Places(Dependencies):
         messages = self.build("deps", both)[1]
         self.assertEqual(self.found(), ["x.o.1.d", "x.o.2.d", "x.o.d"])
         self.assertEqual([self.read(name).split()[2] for name in ("x.o.d", "x.o.1.d", "x.o.2.d")], ["a.c", "b.c", "b.c"])
-        self.assertEqual(messages[0], "build.py: %s: %s is that of another command, so its dependency file is %s"
+        self.assertEqual(messages[0], "build.py: %s: %s is that of another command, so its .d file is %s"
                          % tuple(map(self.path, ("b.c", "x.o.d", "x.o.1.d"))))
         self.clear()
         os.symlink(self.top, self.path("here"))
@@ -130,7 +130,7 @@ class Places(Dependencies):
         for option in ["-MT", "t\nall: x"], ["-MQ", "a\tb"], ["-o", "x\0.o"], ["-MF", "q\n.d"], ["-MF", "\0"]:
             messages = self.build("deps", [["gcc", *option, "-c", "a.c"], ("gcc -c b.c", "b.c")], status=1)[1]
             self.assertEqual((self.found(), len(messages)), (["a|b.h", "b.o.d"], 2), option)
-            self.assertRegex(messages[0], "can't be (written so that|that of a dependency file)")
+            self.assertRegex(messages[0], "can't be (written so that|that of a file)")
 
     def test_what_is_no_dependency_file_stays(self):
         """Wants no file replaced or removed that has more than rules, or that the build reads, and the files of the others."""

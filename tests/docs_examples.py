@@ -168,7 +168,7 @@ def demo():
         os.symlink(program(), os.path.join(tools, "cppunits"))
         path = os.pathsep.join((tools, os.path.join(TOP, "scripts"), os.environ["PATH"]))
         where = shutil.copytree(os.path.join(TOP, "examples", "demo"), os.path.join(folder, "demo"))
-        yield where, dict(os.environ, PATH=path, SOURCE_DATE_EPOCH="1707465903")
+        yield where, dict(os.environ, PATH=path, CPPUNITS=program(), SOURCE_DATE_EPOCH="1707465903", XDG_CACHE_HOME=os.path.join(folder, "cache"))
 
 
 def documents():

@@ -33,7 +33,10 @@ MARKS = "PTL"
 EXTERNAL = {"intmax_t", "uintmax_t", "defined", "get_as", "set_as", "gnu"}
 
 # definitions that only contracts inside their crate cite, and that stand beside the public ones that they complete
-BESIDE = {"ppmacro/HiddenView: extended", "ppmacro/Entries: is_operator"}
+BESIDE = {"ppmacro/HiddenView: extended", "ppmacro/Entries: is_operator", "ppserve/Output: shows_items"}
+
+# vocabulary of the code that contracts of calls cite by which a text is printed: ppserve alone makes them
+PRINTING = {"ppprint/code/Held", "ppprint/code/PragmaText", "ppprint/code/Steps", "ppprint/code/Tokens", "pptext/code/FoundLexemes"}
 
 
 class Facts:
@@ -175,7 +178,7 @@ class Specification(unittest.TestCase):
 
     def test_no_theorem_and_no_public_call_cites_the_vocabulary_of_the_code(self):
         reached = {file for found in self.facts.reached.values() for file, _ in found}
-        self.assertEqual([specs.file for specs in self.facts.inner if specs.file in reached], [])
+        self.assertEqual({specs.file for specs in self.facts.inner if specs.file in reached}, PRINTING)
 
     def test_what_only_contracts_inside_a_crate_cite_is_there(self):
         found = {"%s: %s" % node for node in citations.only_inside(self.facts.code)}

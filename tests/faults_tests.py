@@ -37,7 +37,7 @@ class Faults(Folder):
     def printed(self, listed):
         """Returns what the program prints for a list."""
         words = [] if "text" in listed["files"][0] else ["--root", self.top]
-        done = cppunits(*words, "deps", input=json.dumps(listed).encode())
+        done = cppunits(*words, "faults", input=json.dumps(listed).encode())
         self.assertEqual(done.stderr, b"")
         return done.stdout
 
@@ -178,18 +178,17 @@ class Chains(Faults):
                  "y.h": guarded % ("Y", "Y", "#include \"base.h\"\n"), "base.h": guarded % ("B", "B", "#include \"x.h\"\n#error\n")}
         self.assertEqual(self.chain(files), [("y.h", 3), ("a.c", 2)])
 
-    def test_what_is_not_certain_is_left_out(self):
-        # the dependencies are the same, whichever of the two lines opens it
+    def test_lines_that_open_the_same_files(self):
         files = {"a.c": "#ifdef A\n#include \"h.h\"\n#else\n#include \"h.h\"\n#endif\n", "h.h": "#error x\n"}
-        self.assertIsNone(self.chain(files))
-        self.assertTrue(self.report(files).startswith("In unit a.c:\nh.h:1:1: error: "))
+        self.assertEqual(self.chain(files), [("a.c", 4)])
+        self.assertEqual(self.chain(files, units=[{"file": "a.c", "define": ["A"]}]), [("a.c", 2)])
 
     def test_definitions_count(self):
         files = {"a.c": "#include \"h.h\"\n#include \"k.h\"\n", "h.h": "#ifndef G\n#define G\n#include \"k.h\"\n#endif\n",
                  "k.h": "#define N 1\n#error x\n"}
         self.assertEqual(self.chain(files, units=[{"file": "a.c", "define": ["N 1"]}]), [("h.h", 3), ("a.c", 1)])
-        # if the guard is defined from the beginning, h.h may do nothing
-        self.assertIsNone(self.chain(files, units=[{"file": "a.c", "define": ["G"]}]))
+        # if the guard is defined from the beginning, h.h does nothing
+        self.assertEqual(self.chain(files, units=[{"file": "a.c", "define": ["G"]}]), [("a.c", 2)])
 
     def test_a_guard_with_a_second_branch(self):
         """Reads a file like gcc's limits.h: if it is opened again, it goes on after #else."""
@@ -205,10 +204,11 @@ class Chains(Faults):
             self.assertEqual(self.chain(files, profile=profile), [("a.c", line)])
 
     def test_many_files_take_no_long_time(self):
-        files = {"a.c": "".join("#ifndef X\n#include \"%d.h\"\n#endif\n" % n for n in range(1000)), "999.h": "#error x\n"}
+        """Wants this also for a macro that any of the files may define."""
+        files = {"a.c": "".join("#ifndef X\n#include \"%d.h\"\n#endif\n" % n for n in range(1000)), "999.h": "#define f(a) a\nf(1, 2)\n"}
         files = {**{"%d.h" % n: "#if X\n#include \"%d.h\"\n#include \"%d.h\"\n#endif\n" % (n * 7 % 1000, n) for n in range(999)}, **files}
         began = seconds()
-        self.assertIsNone(self.chain(files, units=[{"file": "a.c"}]))
+        self.assertEqual(self.chain(files, units=[{"file": "a.c"}]), [("a.c", 2999)])
         self.assertLess(seconds() - began, 10)
 
     def test_names_that_macros_make_and_next_files(self):
@@ -217,8 +217,11 @@ class Chains(Faults):
         self.assertEqual(self.chain(files, search=["one", "two"], profile="gnu"), [("one/h.h", 3), ("a.c", 2)])
 
     def test_a_file_of_which_nothing_is_processed(self):
-        files = {"a.c": "#include \"h.h\"\n", "h.h": "#include \"k.h\"\n#if 1\n", "k.h": ""}
-        self.assertEqual(self.chain(files), [("a.c", 1)])
+        """Wants the unit instead of the include lines, and none of them above a fault of the unit's own file."""
+        files = {"a.c": "#include \"g.h\"\n", "g.h": "#include \"h.h\"\n", "h.h": "#include \"k.h\"\n#if 1\n", "k.h": ""}
+        self.assertIsNone(self.chain(files))
+        self.assertTrue(self.report(files, inside=True).startswith("In unit a.c:\nh.h:2:1: error: unterminated #if"))
+        self.assertEqual(self.chain({"a.c": "#include \"k.h\"\n#if 1\n", "k.h": ""}), [])
 
     def test_a_file_that_is_gone(self):
         listed = self.listed({"a.c": "#include \"b.h\"\n", "b.h": "#include \"c.h\"\n", "c.h": ""})
@@ -227,41 +230,45 @@ class Chains(Faults):
         self.assertTrue(text.startswith("In file included from a.c:1:\nb.h:1:1: error: the file can't be read: c.h [fault 6]\n    1 | #inc"), text)
 
     def test_includes_without_an_end(self):
-        self.assertIsNone(self.chain({"a.c": "#include \"a.c\"\n"}))
+        self.assertEqual(self.chain({"a.c": "#include \"a.c\"\n"}), [("a.c", 1)] * 200)
 
-    def test_the_file_that_is_made_for_a_unit(self):
-        made = "cppunits-generated/0/src/a.c"
-        text = "#include \"../../../first.h\"\n#include \"../../../src/a.c\"\n"
-        files = {made: text, "first.h": "#ifdef F\n#error first\n#endif\n", "src/a.c": "#include \"k.h\"\n", "src/k.h": "#error k\n"}
-        units = [{"file": made}, {"file": made, "define": ["F"]}]
-        last, first = self.members(files, inside=True, units=units)
-        self.assertEqual(last["chain"], [{"path": "src/a.c", "line": 1}])
-        self.assertEqual(first["chain"], [{"path": "<command line>", "line": 1}])
-        self.assertEqual((last["source"], first["source"]), ("src/a.c", "src/a.c"))
+    def test_files_that_are_read_first(self):
+        files = {"src/a.c": "#include \"k.h\"\n", "src/k.h": "#error k\n", "first.h": "#ifdef F\n#error first\n#endif\n", "more.h": "#include \"first.h\"\n"}
+        units = [{"file": "src/a.c", "define": define, "first": first}
+                 for define, first in (([], ["first.h"]), (["F"], ["first.h"]), (["F", "G"], [{"name": "more.h", "system": True}]))]
+        found = self.members(files, inside=True, units=units)
+        chains = [[(place["path"], place["line"]) for place in one["chain"]] for one in found]
+        self.assertEqual(chains, [[("src/a.c", 1)], [("<command line>", 2)]])
+        self.assertEqual([(one["source"], one["units"]) for one in found], [("src/a.c", 1), ("src/a.c", 2)])
+        text = self.report(files, inside=True, units=units[2:])
+        self.assertTrue(text.startswith("In unit src/a.c:\nIn file included from more.h:1,\n                 from <command line>:3:\nfirst.h:2:1: "), text)
+
+    def test_a_file_that_is_read_first_and_gone(self):
+        listed = self.listed({"a.c": "", "b.h": ""}, units=[{"file": "a.c", "define": ["X"], "first": ["b.h"]}])
+        os.unlink(self.path("b.h"))
+        text = self.report_of(listed, self.printed(listed))
+        self.assertTrue(text.startswith("In unit a.c:\n<command line>:2:1: error: the file can't be read: b.h [fault 6]\n    2 | #include \"b.h\"\n"), text)
 
     def test_by_gcc_over_files_at_random(self):
         missed("gcc")
-        counts = [0, 0]
+        count = 0
         for seed in range(60):
             files = at_random(random.Random(seed))
             listed = self.listed(files, inside=True, profile="gnu")
             output, to = self.printed(listed), io.StringIO()
             if faults.print_faults(listed, io.BytesIO(output), ".", to, form="json"):
-                self.compare(files, json.loads(to.getvalue()), counts)
-        self.assertGreater(counts[1], 5)
-        self.assertGreater(counts[0], 2 * counts[1] // 3)
+                self.compare(files, json.loads(to.getvalue()))
+                count += 1
+        self.assertGreater(count, 5)
 
-    def compare(self, files, found, counts):
-        """Wants that the chain is gcc's, if one is printed."""
+    def compare(self, files, found):
+        """Wants that the chain is gcc's."""
         write(self.top, files)
         done = run(["gcc", "-E", "-P", "a.c"], cwd=self.top, env=dict(os.environ, LC_ALL="C"))
         head = done.stderr.decode().split(": error: ")[0]
         above = re.findall(r"from ([\w.]+):(\d+)[,:]", head)
         self.assertEqual(head.split("\n")[-1].split(":")[:2], [found["path"], str(found["line"])])
-        counts[1] += 1
-        if found["chain"] is not None:
-            counts[0] += 1
-            self.assertEqual([(place["path"], str(place["line"])) for place in found["chain"]], above, files)
+        self.assertEqual([(place["path"], str(place["line"])) for place in found["chain"]], above, files)
 
 
 def seconds():
@@ -415,6 +422,15 @@ class Explained(Faults):
         for word, profile, more in self.WORDS:
             self.assertEqual(self.told("#if 1\n#%s\n#endif\n" % word, 8, profile)["message"], message(8, word) + more)
 
+    def test_definitions_in_files_that_a_unit_opened(self):
+        """Wants a definition to be certain if another is in a file that the unit didn't open, and this is known."""
+        files = {"a.c": "#include \"h.h\"\nf(1, 2)\n", "h.h": "#define f(a) a\n", "b.c": "#define f(a, b, c) a\n"}
+        listed = self.listed(files)
+        output, deps = self.printed(listed), cppunits("--root", self.top, "deps", input=json.dumps(listed).encode()).stdout
+        write(self.top, {"deps": deps})
+        self.assertNotIn("is defined here", self.report_of(listed, output))
+        self.assertIn("\nh.h:1:9: note: macro f is defined here\n", self.report_of(listed, output, "--deps", "deps"))
+
     def test_names_of_directives_are_those_of_the_program(self):
         """Wants that the program knows each directive that may be suggested."""
         for profile, names in explain.DIRECTIVES.items():
@@ -488,16 +504,19 @@ class Forms(Faults):
 class Refusals(Faults):
     def test_what_is_wrong_is_said_in_a_line(self):
         good = json.dumps(self.listed({"a.c": "#error x\n"}))
-        unit = "unit 0 a.c\ndep 0 a.c\n"
+        unit = "unit 0 a.c\n"
         write(self.top, {"list": good, "none": "{}", "odd": '{"files":[{"name":1}],"units":[]}', "word": '{"files":[],"units":["a.c"]}',
                          "search": '{"files":[],"units":[],"search":3}', "define": '{"files":[],"units":[{"file":"a","define":[1]}]}',
                          "good": unit + "fault 34 0:1:1 x\n", "cut": unit, "row": unit + "fault 34 1:1:1 x\n",
-                         "other": "unit 0 b.c\ndep 0 a.c\nfault 34 0:1:1 x\n", "dep": "unit 0 a.c\ndep 0 b.c\nfault 34 0:1:1 x\n",
-                         "far": "unit 0 a.c\ndep %s a.c\nfault 34 0:1:1 x\n" % ("9" * 5000), "words": unit + "fault x\n",
+                         "other": "unit 0 b.c\nfault 34 0:1:1 x\n", "dep": unit + "dep 0 a.c\nfault 34 0:1:1 x\n",
+                         "far": unit + "in %s:1:1\nfault 34 0:1:1 x\n" % ("9" * 5000), "above": unit + "in 1:1:1\nfault 34 0:1:1 x\n",
+                         "first": '{"files":[],"units":[{"file":"a","first":[{"shown":"a"}]}]}', "words": unit + "fault x\n",
                          "long": unit + "fault 34 0:%s:1 x\n" % ("9" * 5000), "text": "words\n"})
-        cases = [(listed, "good", 3) for listed in ("none", "odd", "word", "search", "define", "text")]
-        cases += [("list", output, 3) for output in ("cut", "row", "other", "dep", "far", "words", "long", "text")]
-        cases += [("list", "absent", 5), ("absent", "good", 5), ("-", "-", 2), ("--color", "blue", 2), ("--format", "xml", 2)]
+        write(self.top, {"macro": unit + "fault 23 0:1:1\n", "deps": "unit 0 a.c\ndep 0 b.c\nok\n", "deps2": "unit 0 a.c\ndep 1 a.c\nok\n"})
+        cases = [(listed, "good", 3) for listed in ("none", "odd", "word", "search", "define", "first", "text")]
+        cases += [("list", output, 3) for output in ("cut", "row", "other", "dep", "far", "above", "words", "long", "text")]
+        cases += [("list", "macro", "--deps", name, 3) for name in ("deps", "deps2", "cut")] + [("list", "macro", "--deps", "absent", 5)]
+        cases += [("list", "absent", 5), ("absent", "good", 5), ("-", "-", 2), ("list", "-", "--deps", "-", 2), ("--color", "blue", 2), ("--format", "xml", 2)]
         for *words, status in cases:
             done = script("faults.py", *words, cwd=self.top, stdin=subprocess.DEVNULL)
             found = done.returncode, done.stderr.count(b"\n"), done.stdout
@@ -507,12 +526,12 @@ class Refusals(Faults):
     def test_places_that_are_nowhere(self):
         listed = self.listed({"a.c": "#error x\n"})
         for place in ("0:9:1", "0:1:99", "0:0:1", "65535:1:1"):
-            text = self.report_of(listed, b"unit 0 a.c\ndep 0 a.c\nfault 34 %s x\n" % place.encode())
+            text = self.report_of(listed, b"unit 0 a.c\nfault 34 %s x\n" % place.encode())
             self.assertEqual(len(FIRST.findall(text)), 1)
             self.assertNotIn(" | ", text)
 
     def test_a_number_that_is_not_known(self):
-        text = self.report_of(self.listed({"a.c": "#error x\n"}), b"unit 0 a.c\ndep 0 a.c\nfault 99 0:1:1 x\n")
+        text = self.report_of(self.listed({"a.c": "#error x\n"}), b"unit 0 a.c\nfault 99 0:1:1 x\n")
         self.assertEqual(text, "a.c:1:1: error: x [fault 99]\n    1 | #error x\n      | ^\n")
 
     def test_help(self):
@@ -539,7 +558,8 @@ class Table(unittest.TestCase):
         self.assertGreater(len(found), 30)
         for listed, output in found:
             to = io.StringIO()
-            faults.print_faults(json.loads(listed), io.BytesIO(output.encode()), ".", to)
+            printed = re.sub(r"^(?:tok|prag|ptok|dep) .*\n", "", output, flags=re.M)
+            faults.print_faults(json.loads(listed), io.BytesIO(printed.encode()), ".", to)
             number = re.search(r"^fault (\d+) ", output, re.M)[1]
             self.assertEqual(FIRST.search(to.getvalue())[5], number)
             # the line is there, but a file can't be read

@@ -222,16 +222,25 @@ class Commands(Lists):
     def test_a_file_that_is_included_first(self):
         files = {"cfg/first.h": '#include "second.h"\nfirst\n', "cfg/second.h": "second\n"}
         command = "cc -include first.h -Icfg -c a.c"
-        unit, listed, _ = self.unit(command, files, ["--inline"])
-        made = next(row for row in listed["files"] if row["name"] == unit["file"])
-        self.assertEqual(made["text"], '#include "../../cfg/first.h"\n#include "../../a.c"\n')
-        dump = cppunits("dump", input=json.dumps(listed).encode())
+        unit, listed, messages = self.unit(command, files)
+        self.assertEqual((unit["file"], unit["first"], messages), ("a.c", ["cfg/first.h"], []))
+        dump = cppunits("--root", self.root, "dump", input=json.dumps(listed).encode())
         self.assertEqual(re.findall(r"^tok .* (\w+)$", dump.stdout.decode(), re.M), ["second", "first", "x"])
-        _, _, messages = self.unit(command, files, status=1)
-        self.assertIn("needs --inline or --generate", messages[0])
-        unit, listed, messages = self.unit(command, files, ["--generate"])
-        self.assertEqual(messages, [])
-        self.assertEqual(cppunits("--root", self.root, "dump", input=json.dumps(listed).encode()).stdout, dump.stdout)
+        unit, _, messages = self.unit("cc -include %s/cfg/second.h -include gone.h -include a.h -Icfg -c a.c" % self.root, {"a.h": "", "cfg/a.h": ""}, status=1)
+        self.assertEqual((unit["first"], len(messages)), (["cfg/second.h", "a.h"], 1))
+        self.assertIn("-include gone.h: there is no such file", messages[0])
+
+    def test_spellings(self):
+        files = {"inc/i.h": "", "sys/s.h": "", "quote/q.h": "", "first.h": "", "inc/more.h": ""}
+        command = "cc -include first.h -include more.h -include ./inc/i.h -include %s/sys/s.h -I./inc -isystem sys/ -iquote quote -idirafter inc/. -c a.c" % self.root
+        unit, listed, messages = self.unit(command, files, ["--shown"])
+        self.assertEqual((unit["file"], unit["shown"], messages), ("a.c", "a.c", []))
+        # a directory that -idirafter names as well is the system's
+        self.assertEqual(listed["search"], [{"name": "quote", "shown": "quote"}, {"name": "sys", "shown": "sys/", "system": True},
+                                            {"name": "inc", "shown": "./inc", "system": True}])
+        self.assertEqual(unit["first"], [{"name": "first.h", "shown": "./first.h"}, {"name": "inc/more.h", "shown": "./inc/more.h", "system": True},
+                                         {"name": "inc/i.h", "shown": "././inc/i.h"}, {"name": "sys/s.h", "shown": self.root + "/sys/s.h"}])
+        self.assertEqual(cppunits("--root", self.root, "deps", input=json.dumps(listed).encode()).stderr, b"")
 
     def test_contents_that_are_no_text(self):
         _, listed, _ = self.unit("cc -c a.c", {"a.c": b'"\xff\xfe"\n'}, ["--inline"])

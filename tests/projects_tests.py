@@ -8,7 +8,7 @@ import os
 import sys
 import unittest
 
-from counted import TOP, Folder, main, missed, program, run, well, write
+from counted import LIST, TOP, Folder, main, missed, program, run, well, write
 
 sys.path.insert(0, os.path.join(TOP, "bench"))
 from cutter import spellings  # noqa: E402
@@ -80,6 +80,45 @@ class Projects(Folder):
         self.assertEqual(entry.words, ["gcc", "a.c", "-DX"])
         names = projects.dependencies_of_compiler(b"a.o: a.c \\\n b\\ c.h e$$.h \\#.h /usr/include/stdc-predef.h\n", entry)
         self.assertEqual(names, [b"/d/a.c", b"/d/b c.h", b"/d/e$.h", b"/d/#.h"])
+
+
+class Objects(Folder):
+    """Tests bench/texts.py."""
+
+    def compared(self, files, units, *words, **more):
+        """Returns the row of a list, the lines on standard error, and the status."""
+        missed("gcc")
+        rows = [{"name": name, "text": text} for name, text in files.items()]
+        write(self.top, {"list.json": json.dumps(dict(LIST, profile="gnu", search=["inc"], files=rows, units=units, **more))})
+        done = run([sys.executable, os.path.join(TOP, "bench", "texts.py"), "--program", program(), "--jobs", "2", *words, self.path("list.json")])
+        cells = [cell.strip() for cell in done.stdout.decode().splitlines()[2:][-1].strip("|").split("|")] if done.returncode < 2 else []
+        return cells[1:6], done.stderr.decode().splitlines(), done.returncode
+
+    def test_objects(self):
+        files = {"src/a.c": "#include <h.h>\nconst char *f(void) { return __FILE__ __DATE__ F; }\nint line = A(__LINE__) + FIRST;\n",
+                 "inc/h.h": "#define F __FILE__\n", "first.h": "#define FIRST 1\n", "b.c": "#error no\n", "c.c": "int\n"}
+        units = [{"file": "src/a.c", "define": ["A(x) x", "B"], "first": ["first.h"]}, {"file": "b.c"}, {"file": "c.c"}]
+        cells, lines, status = self.compared(files, units)
+        self.assertEqual((cells, status), (["3", "2", "1", "1", "1"], 0))
+        self.assertEqual(sorted(line.split(":")[0] for line in lines), ["1 b.c", "2 c.c"])
+
+    def test_what_differs_is_told(self):
+        cells, lines, status = self.compared({"a.c": "int a = 0\n#ifdef __x86_64__\n+ 1\n#elif defined __ELF__\n+ 2\n#endif\n;\nint level = __INCLUDE_LEVEL__;\n",
+                                              "b.c": "#ifdef __has_attribute\nint b;\n#endif\n"}, [{"file": "a.c"}, {"file": "b.c"}])
+        self.assertEqual((cells, status), (["2", "2", "2", "1", "0"], 1))
+        self.assertIn("0 a.c: text: ", "\n".join(lines))
+        self.assertIn("1 b.c: the objects differ", lines)
+
+    def test_macros_of_the_compiler(self):
+        cells, _, status = self.compared({"a.c": "#ifdef __GNUC__\nint gnu = __GNUC__;\n#endif\nint i = __INT_MAX__;\n"}, [{"file": "a.c"}], "--macros")
+        self.assertEqual((cells, status), (["1", "1", "1", "1", "1"], 0))
+
+    def test_what_is_no_list(self):
+        self.assertEqual(self.compared({"a.c": ""}, [{"file": "b.c"}])[2], 3)
+        for text in "{", "{}", '{"files":[],"units":[]}':
+            write(self.top, {"none": text})
+            done = run([sys.executable, os.path.join(TOP, "bench", "texts.py"), "--program", program(), self.path("none")])
+            self.assertEqual((done.returncode, done.stderr.count(b"\n")), (3, 1), done.stderr)
 
 
 class Cutter(unittest.TestCase):

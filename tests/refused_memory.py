@@ -49,12 +49,17 @@ LISTS = {
 }
 
 
+SHOWN = {"shown names, files that are read first, and operators": json.dumps({
+    "date": "Feb  9 2024", "time": "08:05:03", "profile": "gnu", "search": [{"name": "sys", "shown": "/usr/include", "system": True}],
+    "files": [{"name": "a.c", "text": '#include <h.h>\n_Pragma("pack(1)") __FILE__ F(x)\n#pragma a b\n#line 9 "z"\nx\n#include "b.h"\n'},
+              {"name": "sys/h.h", "text": "#pragma once\n#define F(x) -x-1\n#include <h.h>\n"}, {"name": "b.h", "text": "#error\n"}],
+    "units": [{"file": "a.c", "shown": "../a.c", "first": ["sys/h.h", {"name": "sys/h.h", "shown": "h"}]}]}).encode()}
 INVOCATION = {"a.c": "#define f(a) a*g\n#define g(a) f(a)\nf(2)(9)\n"}
 GUARDED = {"a.c": '#include "h.h"\n#include "h.h"\n', "h.h": "#ifndef H\n#define H\nint a;\n#endif\n"}
 SEARCHED = {"src/a.c": '#include "x.h"\n#include <x.h>\n#include "../inc/x.h"\n#include <y.h>\n', "src/x.h": "1", "inc/x.h": "2"}
 
 # Files, units and directories, what is printed for them, and how many blocks the answer doesn't need.  Most are shrunk to their
-# contents: the tokens and lines of files and the items of units, if they have unused room.  A block that can't be shrunk keeps its
+# contents: the tokens and lines of files and the items and marks of units, if they have unused room.  A block that can't be shrunk keeps its
 # size.  An invocation gives its vectors back to a pool, which has three lists of them.  If a list can't grow, the vector is freed.
 ROWS = {
     "one token": ({"a.c": "x\n"}, [{"file": "a.c"}], [], "unit 0 a.c\ntok 0:1:1 0:1:1 i+ x\ndep 0 a.c\nok\n", 3),
@@ -66,7 +71,7 @@ ROWS = {
     "a guarded header twice, in two units": (
         GUARDED, [{"file": "a.c"}, {"file": "a.c", "define": ["H"]}], [],
         "unit 0 a.c\ntok 1:3:1 1:3:1 i+ int\ntok 1:3:5 1:3:5 i+ a\ntok 1:3:6 1:3:6 p- ;\ndep 0 a.c\ndep 1 h.h\nok\n"
-        "unit 1 a.c\ndep 0 a.c\ndep 1 h.h\nok\n", 5,
+        "unit 1 a.c\ndep 0 a.c\ndep 1 h.h\nok\n", 6,
     ),
     "searched directories": (
         SEARCHED, [{"file": "src/a.c"}], ["inc"],
@@ -99,6 +104,9 @@ def written(name):
 WAYS = {
     "one worker": (["--workers", "1", "dump"], LISTS),
     "four workers": (["--workers", "4", "--block", "1", "deps"], LISTS),
+    "one worker, text": (["--workers", "1", "text"], SHOWN),
+    "two workers, text": (["--workers", "2", "--block", "1", "text"], SHOWN),
+    "one worker, faults": (["--workers", "1", "faults"], SHOWN),
     "four workers over a directory": (
         ["--workers", "4", "--block", "1", "--root", os.path.join(EXAMPLES, "files"), "dump"],
         {"names alone": example("names.json")},

@@ -15,6 +15,8 @@ import xml.etree.ElementTree
 
 from counted import LIST, TOP, Folder, cppunits, main, missed, program, run, script, well, write
 
+MODES = ("dump", "deps", "faults", "text")
+TEXT = b"unit 0 a.c\n|# 1 \"a.c\"\n|a\ndep 0 a.c\nok\n"
 SCRIPTS = ("list_from_build.py", "depfile.py", "text.py", "shards.py", "faults.py")
 
 
@@ -40,12 +42,6 @@ def form(language, begin):
     return next(block for block in blocks if block.startswith(begin))
 
 
-def tokens(dump):
-    """Returns the kind and the spelling of each token line."""
-    lines = [line.split(b" ", 3)[3] for line in dump.split(b"\n") if line.startswith((b"tok ", b"ptok "))]
-    return [(line[:1], line[3:]) for line in lines]
-
-
 class All(Folder):
     def test_help_has_an_example_and_names_the_statuses(self):
         for name in ("build.py", *SCRIPTS):
@@ -55,8 +51,8 @@ class All(Folder):
 
     def test_what_is_wrong_is_said_in_a_line(self):
         write(self.top, {"cut": "unit 0 a.c\ntok 0:1:1 0:1:1 i+ a\n", "half": "unit 0 a.c\nok",
-                         "other": "unit 0 a.c\nwords\nok\n", "skipped": "unit 1 a.c\nok\n", "list": "{}"})
-        outputs = [(name, word, 3) for name in ("depfile.py", "text.py") for word in ("cut", "half", "other", "skipped")]
+                         "other": "unit 0 a.c\nwords\nok\n", "skipped": "unit 1 a.c\nok\n", "list": "{}", "faults": "unit 0 a.c\nok\n"})
+        outputs = [(name, word, 3) for name in ("depfile.py", "text.py") for word in ("cut", "half", "other", "skipped", "faults")]
         others = [("shards.py", "join", "cut", 3), ("shards.py", "cut", "2", "list", 3), ("shards.py", "cut", "0", "list", 2),
                   ("shards.py", 2), ("text.py", "--unit", "x", 2), ("depfile.py", "none", 5), ("text.py", "none", 5),
                   ("shards.py", "join", "none", 5)]
@@ -99,9 +95,8 @@ class All(Folder):
     def test_a_write_that_fails(self):
         if not os.path.exists("/dev/full"):
             raise unittest.SkipTest("this system has no /dev/full")
-        write(self.top, {"dump": "unit 0 a.c\ntok 0:1:1 0:1:1 i+ a\nok\n"})
-        write(self.top, {"part": marked(read(self.top, "dump"))})
-        for words in (("text.py", "dump"), ("shards.py", "join", "part")):
+        write(self.top, {"text": TEXT, "part": marked(TEXT)})
+        for words in (("text.py", "text"), ("shards.py", "join", "part")):
             with open("/dev/full", "wb") as full:
                 command = [sys.executable, os.path.join(TOP, "scripts", words[0]), *words[1:]]
                 done = subprocess.run(command, cwd=self.top, stdout=full, stderr=subprocess.PIPE)
@@ -163,20 +158,18 @@ class Dependencies(Folder):
         self.assertEqual(script("depfile.py", "--partial", input=deps, cwd=self.top).returncode, 1)
         self.assertEqual(read(self.top, "a.c.d"), b"a.o: \\\n  a.c\n")
 
-    def test_a_file_that_was_made_for_a_unit(self):
-        files = {"cppunits-generated/0/src/a.c": '#include "../../../first.h"\n#include "../../../src/a.c"\n', "src/a.c": "", "first.h": ""}
-        deps = cppunits("deps", input=listed(files)).stdout
+    def test_a_file_that_is_read_first(self):
+        deps = cppunits("deps", input=listed({"src/a.c": "", "first.h": ""}, [{"file": "src/a.c", "first": ["first.h"]}])).stdout
         script("depfile.py", input=deps, cwd=self.top)
-        rule = b"src/a.o: \\\n  first.h \\\n  src/a.c\n"
+        rule = b"src/a.o: \\\n  src/a.c \\\n  first.h\n"
         self.assertEqual(read(self.top, "src/a.c.d"), rule)
-        # only headers have a rule of their own, also a header that comes before the source
         script("depfile.py", "--phony", input=deps, cwd=self.top)
         self.assertEqual(read(self.top, "src/a.c.d"), rule + b"first.h:\n")
 
-    def test_a_name_like_that_of_a_made_file(self):
-        deps = cppunits("deps", input=listed({"cppunits-generated/x.c": ""})).stdout
-        self.assertEqual(script("depfile.py", input=deps, cwd=self.top).returncode, 0)
-        self.assertEqual(os.listdir(self.path("cppunits-generated")), ["x.c.d"])
+    def test_an_output_without_dependencies(self):
+        done = script("depfile.py", input=cppunits("faults", input=listed({"a.c": ""})).stdout, cwd=self.top)
+        wanted = b"depfile.py: unit 0 has no dependencies: the output of `cppunits deps` is wanted\n"
+        self.assertEqual((done.returncode, done.stderr, os.listdir(self.top)), (3, wanted, []))
 
     def test_names_that_no_rule_can_hold(self):
         for name in ("a*.c", "a|.c", "a\\ b.c", "a\\"):
@@ -214,62 +207,77 @@ int printf(const char *, ...);
 #define STR(x) #x
 #endif
 """
-# tokens on each line that would be other tokens without a space between them
-CLOSE = r"""#define E
-#define I(x) x
-+I(+)a -I(-)-I(=)b &I(&) |I(|)|I(=)c <I(<)I(<)= >I(>)I(=) <I(:) %I(:)%I(:) ?I(?)= .I(.). .I(5) 1I(.)2 1I(a)
-aI(b) aI(1) 1eI(+)1 0xpI(-)2 1I('a') uI('a') u8I("s") LI("s") "s"I(x) 'a'I(b) /I(/) /I(*) *I(/) #I(#)
-->I(>) !I(=) ^I(=) =I(=) E# x
-I(#)define X
-%:%: I(%:) y
-@I(@) `I(a) \I(u)1234 $I($)
-"""
 
 
 class Text(Folder):
     PROGRAM = {"main.c": PROGRAM, "say.h": HEADER}
 
+    def printed(self, files, units=None):
+        return cppunits("text", input=listed(files, units)).stdout
+
     def test_a_program_runs_as_before(self):
         missed("gcc")
         write(self.top, self.PROGRAM)
-        dump = cppunits("dump", input=listed(self.PROGRAM))
-        self.assertEqual(dump.returncode, 0)
-        done = script("text.py", "--into", "out", input=dump.stdout, cwd=self.top)
+        done = script("text.py", "--into", "out", input=self.printed(self.PROGRAM), cwd=self.top)
         self.assertEqual((done.returncode, done.stderr), (0, b""))
-        well(["gcc", "-std=c11", "-Wall", "-Werror", "-o", "ours", "-x", "cpp-output", "out/main.c.i"], cwd=self.top)
+        well(["gcc", "-std=c11", "-Wall", "-Werror", "-o", "ours", "out/main.c.i"], cwd=self.top)
         well(["gcc", "-std=c11", "-Wall", "-Werror", "-o", "theirs", "main.c"], cwd=self.top)
         printed = well(["./ours"], cwd=self.top)
         self.assertEqual(printed, well(["./theirs"], cwd=self.top))
         self.assertEqual(printed.count(b"\n"), 8)
 
-    def test_the_text_has_the_same_tokens(self):
-        for text in (CLOSE + "\\ \nx\n#pragma \\ \ny \\ \n", self.PROGRAM["main.c"].replace("_Pragma", "Pragma")):
-            dump = cppunits("dump", input=listed({**self.PROGRAM, "main.c": text}))
-            self.assertEqual(dump.returncode, 0, dump.stdout)
-            made = script("text.py", input=dump.stdout).stdout
-            again = cppunits("dump", input=listed({"a.c": made.decode()}))
-            self.assertEqual(again.returncode, 0, made)
-            self.assertEqual(tokens(again.stdout), tokens(dump.stdout))
-
-    def test_lines_and_spaces(self):
-        text = "#define F(x) x+x\nint   a ;\n\n\nF(b\n) c\n#pragma  once   more\nd\n"
-        made = script("text.py", input=cppunits("dump", input=listed({"a.c": text})).stdout)
-        self.assertEqual(made.stdout, b"int a ;\nb+b\nc\n#pragma once more\nd\n")
+    def test_the_bytes_are_those_of_the_output(self):
+        printed = self.printed({"a.c": "#include \"h.h\"\n\"\u00e9|\r\" \x01 %41\n#pragma x |\n", "h.h": "\n\nint h;\n"})
+        wanted = b"".join(line[1:] + b"\n" for line in printed.split(b"\n") if line.startswith(b"|"))
+        self.assertEqual(script("text.py", input=printed).stdout, wanted)
+        self.assertIn(b'"\xc3\xa9|', wanted)
 
     def test_one_unit_of_several(self):
-        three = listed({"a.c": "X\n"}, [{"file": "a.c", "define": ["X %d" % n]} for n in range(3)])
-        dump = cppunits("dump", input=three).stdout
-        self.assertEqual(script("text.py", "--unit", "2", input=dump).stdout, b"2\n")
-        self.assertEqual(script("text.py", "--unit", "3", input=dump).returncode, 3)
-        script("text.py", "--into", ".", input=dump, cwd=self.top)
-        self.assertEqual([read(self.top, name) for name in ("a.c.i", "a.c.1.i", "a.c.2.i")], [b"0\n", b"1\n", b"2\n"])
+        printed = self.printed({"a.c": "X\n"}, [{"file": "a.c", "define": ["X %d" % n]} for n in range(3)])
+        self.assertEqual(script("text.py", "--unit", "2", input=printed).stdout, b'# 1 "a.c"\n2\n')
+        self.assertEqual(script("text.py", "--unit", "3", input=printed).returncode, 3)
+        for _ in range(2):
+            self.assertEqual(script("text.py", "--into", ".", input=printed, cwd=self.top).returncode, 0)
+        self.assertEqual([read(self.top, name)[-2:] for name in ("a.c.i", "a.c.1.i", "a.c.2.i")], [b"0\n", b"1\n", b"2\n"])
 
     def test_a_unit_with_a_fault_has_none(self):
-        dump = cppunits("dump", input=listed({"a.c": "x\n#error no\n"})).stdout
-        done = script("text.py", input=dump)
+        printed = self.printed({"a.c": "x\n#error no\n", "b.c": "y\n", "c.c": ""}, [{"file": "a.c"}, {"file": "b.c"}, {"file": "c.c", "define": ["A+1"]}])
+        done = script("text.py", input=printed)
         self.assertEqual((done.returncode, done.stdout), (1, b""))
         self.assertEqual(done.stderr, b"text.py: unit 0, a.c: fault 34 0:2:1 no\n")
-        self.assertEqual(script("text.py", "--partial", input=dump).stdout, b"x\n")
+        self.assertEqual(script("text.py", "--partial", input=printed).stdout, b'# 1 "a.c"\nx\n')
+        self.assertEqual(script("text.py", "--into", "one", input=printed, cwd=self.top).returncode, 1)
+        self.assertEqual(os.listdir(self.path("one")), ["b.c.i"])
+        self.assertEqual(script("text.py", "--into", "all", "--partial", input=printed, cwd=self.top).returncode, 1)
+        self.assertEqual(sorted(os.listdir(self.path("all"))), ["a.c.i", "b.c.i", "c.c.i"])
+        self.assertEqual(read(self.top, "all/c.c.i"), b"")
+        # it isn't written over either
+        write(self.top, {"one/a.c.i": '# 1 "old"\n'})
+        script("text.py", "--into", "one", input=printed, cwd=self.top)
+        self.assertEqual(read(self.top, "one/a.c.i"), b'# 1 "old"\n')
+
+    def test_the_output_of_another_mode(self):
+        for mode in "dump", "deps", "faults":
+            done = script("text.py", "--into", "out", input=cppunits(mode, input=listed({"a.c": ""})).stdout, cwd=self.top)
+            self.assertEqual((done.returncode, done.stderr), (3, b"text.py: unit 0 has no text: the output of `cppunits text` is wanted\n"))
+        self.assertEqual(os.listdir(self.top), [])
+
+    def test_an_output_that_is_cut(self):
+        """Wants the units that are whole, and no other file."""
+        printed = self.printed({"a.c": "x\n", "b.c": "y\n"}, [{"file": "a.c"}, {"file": "b.c"}])
+        second = printed.index(b"unit 1")
+        for end in range(second + 1, len(printed)):
+            done = script("text.py", "--into", "out", input=printed[:end], cwd=self.top) if end % 5 == 0 else None
+            if done:
+                self.assertEqual((done.returncode, done.stderr.count(b"\n"), os.listdir(self.path("out"))), (3, 1, ["a.c.i"]), end)
+
+    def test_files_of_another_kind_stay(self):
+        write(self.top, {"a.c.i": "%module a\n"})
+        os.mkdir(self.path("b.c.i"))
+        for name, status in ("a.c", 3), ("b.c", 5):
+            done = script("text.py", "--into", ".", input=self.printed({name: "x\n"}), cwd=self.top)
+            self.assertEqual((done.returncode, done.stderr.count(b"\n"), done.stdout), (status, 1, b""), done.stderr)
+        self.assertEqual((read(self.top, "a.c.i"), sorted(os.listdir(self.top))), (b"%module a\n", ["a.c.i", "b.c.i"]))
 
 
 class Table(Folder):
@@ -325,6 +333,14 @@ class Shards(Folder):
             os.symlink(program(), self.path("tools/cppunits"))
         path = os.pathsep.join((self.path("tools"), os.path.join(TOP, "scripts"), os.environ["PATH"]))
         return run(["sh", "-c", command], cwd=self.top, env=dict(os.environ, PATH=path))
+
+    def test_each_mode(self):
+        parts = self.make(5, 2)
+        for mode in MODES:
+            outputs = [cppunits(mode, input=read(self.top, part)).stdout for part in parts]
+            write(self.top, {"%d" % number: output for number, output in enumerate(outputs)})
+            done = script("shards.py", "join", "0", "1", cwd=self.top)
+            self.assertEqual((done.stdout, done.stderr, done.returncode), (cppunits(mode, input=read(self.top, "list.json")).stdout, b"", 0))
 
     def test_the_rules_of_ninja(self):
         missed("ninja")

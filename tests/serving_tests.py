@@ -52,6 +52,17 @@ REFUSED = {
 {$when,"files":[$file],"units":[{"file":"a.c","define":"X"}]}
 {$when,"files":[$file],"units":[{"file":"a.c","define":[["X"]]}]}
 {$when,"files":[$file],"units":[{"file":"a.c","search":null}]}
+{$when,"files":[$file],"units":[$unit],"search":[{}]}
+{$when,"files":[$file],"units":[$unit],"search":[{"shown":"x"}]}
+{$when,"files":[$file],"units":[$unit],"search":[{"name":"inc","shown":null}]}
+{$when,"files":[$file],"units":[$unit],"search":[{"name":"inc","system":1}]}
+{$when,"files":[$file],"units":[$unit],"search":[{"name":"inc","path":"x"}]}
+{$when,"files":[$file],"units":[{"file":"a.c","search":[["inc"]]}]}
+{$when,"files":[$file],"units":[{"file":"a.c","shown":7}]}
+{$when,"files":[$file],"units":[{"file":"a.c","first":"a.c"}]}
+{$when,"files":[$file],"units":[{"file":"a.c","first":[null]}]}
+{$when,"files":[$file],"units":[{"file":"a.c","first":[{"name":"a.c","system":"true"}]}]}
+{$when,"files":[$file],"units":[{"file":"a.c","system":true}]}
 {$when,"files":[$file],"units":[$unit,{"file":"a.c","defines":[]}]}
 {$when,"files":[{"name":"a//c","hex":"A0"}],"units":[$unit]}
 {"budget":"5",$when,"files":[{"name":"a//c","text":""}],"units":[$unit]}
@@ -68,6 +79,8 @@ REFUSED = {
 {"date":"9 Feb","time":"08:05:03","files":[$file],"units":[{"file":"b.c"}]}
 {$when,"files":[$file],"units":[{"file":"b.c","define":["A\n"]}]}
 {$when,"files":[$file],"units":[{"file":"a.c","define":["A\n"]},{"file":"b.c"}]}
+{$when,"files":[$file],"units":[{"file":"a.c","first":["b.c"]}]}
+{$when,"files":[$file],"units":[{"file":"a.c","first":["a.c",{"name":"./a.c","shown":""}]}]}
 """,
     # dates and times, with other definitions and another budget
     6: r"""{"date":"Feb  9 2024","time":"24:00:00","files":[$file],"units":[$unit]}
@@ -81,6 +94,8 @@ REFUSED = {
 """,
     # directories of a wrong form, the last one with another profile
     8: r"""{$when,"files":[$file],"units":[{"file":"a.c","search":[""]}]}
+{$when,"files":[$file],"units":[{"file":"a.c","search":[{"name":"/inc","shown":"/inc"}]}]}
+{$when,"files":[$file],"units":[$unit],"search":[{"name":"../inc","shown":"\n"}]}
 {$when,"files":[$file],"units":[{"file":"a.c","search":["inc","../inc"]}]}
 {$when,"files":[$file],"units":[$unit,{"file":"a.c","search":["a/"]}]}
 {"profile":"c23",$when,"files":[$file],"units":[{"file":"a.c","search":["/"]}]}
@@ -99,6 +114,13 @@ REFUSED = {
 {"budget":1.0,$when,"files":[$file],"units":[$unit]}
 {"budget":-0,$when,"files":[$file],"units":[$unit]}
 {"budget":1e1,$when,"files":[$file],"units":[$unit]}
+{"budget":-1,$when,"files":[$file],"units":[{"file":"a.c","shown":""}]}
+""",
+    11: r"""{$when,"files":[$file],"units":[{"file":"a.c","shown":""}]}
+{$when,"files":[$file],"units":[{"file":"a.c","shown":"a\u001fb"}]}
+{$when,"files":[$file],"units":[{"file":"a.c","first":[{"name":"a.c","shown":"\u007f"}]}]}
+{$when,"files":[$file],"units":[{"file":"a.c","search":[{"name":"inc","shown":""}]}]}
+{$when,"files":[$file],"units":[$unit],"search":[{"name":"inc","shown":"\n"}]}
 """,
 }
 # Inputs that aren't JSON as a whole: nothing, and bytes that aren't UTF-8.
@@ -325,6 +347,10 @@ def listed(files, units, **more):
     return json.dumps(dict(LIST, files=files, units=units, **more), ensure_ascii=False).encode()
 
 
+# Shown names, and whether each is one.
+SHOWN = [("../src/a.c", True), ("/usr//include/./", True), ("é", True), ("s" * 4096, True), ("s" * 4097, False), ("a\tb", False), ("\x7f", False), ("", False)]
+
+
 class Refusals(unittest.TestCase):
     def judged(self, data, number):
         """Wants that a list is refused by this number, or accepted if the number is 0."""
@@ -347,6 +373,15 @@ class Refusals(unittest.TestCase):
             self.judged(listed([{"name": name, "text": ""}], []), 0 if is_file else 3)
             for number, units, search in (0, [dict(UNIT, search=["inc", name])], []), (0, [UNIT], [name]):
                 self.judged(listed([EMPTY_FILE], units, search=search), number if is_folder else 8)
+
+
+    def test_shown_names(self):
+        for shown, is_shown in SHOWN:
+            number = 0 if is_shown else 11
+            self.judged(listed([EMPTY_FILE], [dict(UNIT, shown=shown)]), number)
+            self.judged(listed([EMPTY_FILE], [dict(UNIT, first=[{"name": "a.c", "shown": shown}])]), number)
+            self.judged(listed([EMPTY_FILE], [dict(UNIT, search=["inc", {"name": "lib", "shown": shown}])]), number)
+            self.judged(listed([EMPTY_FILE], [UNIT], search=[{"name": "lib", "system": True, "shown": shown}]), number)
 
 
 class Output(Folder):
