@@ -159,8 +159,13 @@ class Options(Limits):
             for said in b"standard input", b"standard output", b"Status: ":
                 self.assertIn(said, done.stdout, command)
 
-    def test_no_command_and_misplaced_options(self):
-        for words in (), ("--workers", "2"), ("dump", "--workers", "2"), ("dump", "deps"), ("undump",), ("--jobs", "2", "dump"):
+    def test_options_before_and_after_the_command(self):
+        for words in ("--workers", "2", "dump"), ("dump", "--workers", "2"), ("--block", "3", "dump", "--workers", "2"):
+            done = cppunits(*words, input=EMPTY)
+            self.assertEqual((done.returncode, done.stderr), (0, b""), words)
+
+    def test_no_command_and_unknown_options(self):
+        for words in (), ("--workers", "2"), ("dump", "deps"), ("undump",), ("--jobs", "2", "dump"), ("dump", "--jobs", "2"):
             done = cppunits(*words, input=EMPTY)
             self.assertEqual((done.returncode, done.stdout), (2, b""), words)
             self.assertIn(b"Usage: ", done.stderr, words)

@@ -163,6 +163,7 @@ fn command<'a>(alloc: Global) -> Result<Command<'a>, AllocError> {
 fn workers_option<'a>(alloc: Global) -> Arg<'a> {
     Arg::new(alloc, "workers")
         .long("workers")
+        .global(true)
         .value_name("N")
         .help("Preprocess N units in parallel, 1 to 64")
         .default_value("4")
@@ -173,6 +174,7 @@ fn workers_option<'a>(alloc: Global) -> Arg<'a> {
 fn block_option<'a>(alloc: Global) -> Arg<'a> {
     Arg::new(alloc, "block")
         .long("block")
+        .global(true)
         .value_name("K")
         .help("Give a worker at most K units at a time, 1 to 1024")
         .default_value("8")
@@ -181,9 +183,11 @@ fn block_option<'a>(alloc: Global) -> Arg<'a> {
 
 /// Builds the option `--root`.
 fn root_option<'a>(alloc: Global) -> Arg<'a> {
-    Arg::new(alloc, "root").long("root").value_name("DIR").help(
-        "Read each listed file below this directory; the list then has names only",
-    )
+    Arg::new(alloc, "root")
+        .long("root")
+        .global(true)
+        .value_name("DIR")
+        .help("Read each listed file below this directory; the list then has names only")
 }
 
 /// Builds a subcommand.

@@ -22,6 +22,14 @@ const ASKED: &[Asked] = &[
     ),
     (&["cppunits", "--block", "3", "dump"], Mode::Dump, 4, 3, ""),
     (
+        &["cppunits", "--workers", "3", "text", "--root", "/"],
+        Mode::Text,
+        3,
+        8,
+        "/",
+    ),
+    (&["cppunits", "deps", "--block", "3"], Mode::Deps, 4, 3, ""),
+    (
         &["cppunits", "--root", "dump", "deps"],
         Mode::Deps,
         4,
