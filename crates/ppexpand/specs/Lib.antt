@@ -1,4 +1,5 @@
 pub mod Arguments
+pub mod FileNames
 pub mod ExpansionStep
 pub mod Budget
 pub mod Expansion

@@ -6,7 +6,7 @@ use ppmacro::Table;
 #[derive(Drop)]
 pub(crate) struct Context<'t, 'a> {
     pub(crate) table: &'t Table<'a>,
-    pub(crate) env: &'t Env,
+    pub(crate) env: &'t Env<'t>,
     /// The number of arguments around the list: 0 for text lines.
     pub(crate) level: u32,
 }

@@ -7,6 +7,7 @@ mod emitted;
 mod env;
 mod expand_step;
 mod expansion;
+mod file_name;
 mod laws;
 mod lists;
 mod lone_steps;
@@ -25,6 +26,7 @@ mod waiting_tokens;
 pub use emitted::Piece;
 pub use env::Env;
 pub use expansion::{Expanded, expand, expand_list};
+pub use file_name::{FileName, literal};
 pub use laws::{
     budget_caps, budget_is_spent, expansion_terminates, finds_arguments, finds_no_arguments,
     leaves_fully_expanded_tokens, leaves_open, one_expansion, one_outcome, only_budgets_refuse,

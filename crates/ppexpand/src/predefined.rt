@@ -52,7 +52,7 @@ fn predefined_text(
     ensures { IfOk result (λ v. v.items ≡ predefined_text predefined env.now used) }
 {
     match predefined {
-        PredefinedMacro::File => Vec::from_slice(alloc, env.name.as_bytes()),
+        PredefinedMacro::File => env.name.literal(alloc),
         PredefinedMacro::Line => presumed_line(alloc, env, used),
         PredefinedMacro::Date => string_literal(alloc, env.date.as_bytes()),
         PredefinedMacro::Time => string_literal(alloc, env.time.as_bytes()),

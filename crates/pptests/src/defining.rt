@@ -1,5 +1,5 @@
 //! Helpers: source files of short texts, macro tables, and environments.
-use ppexpand::Env;
+use ppexpand::{Env, FileName};
 use ppmacro::{Table, define, undef};
 use pptext::{
     Directive, Error, Hashing, LONGEST, Memory, Profile, Source, Spelling, Token, read_source,
@@ -21,9 +21,9 @@ pub(crate) fn tokens_at(source: &Source, start: usize, end: usize) -> &[Token] {
 }
 
 /// Returns an environment in which lines are shifted by `shift`. No test uses the file's name, the date or the time. The rules are those of C11.
-pub(crate) fn env(shift: i64) -> Env {
+pub(crate) fn env(shift: i64) -> Env<'static> {
     Env {
-        name: Spelling::empty(),
+        name: FileName::spelled(Spelling::empty()),
         shift,
         date: Spelling::empty(),
         time: Spelling::empty(),

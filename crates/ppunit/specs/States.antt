@@ -6,7 +6,7 @@ use Rattle.pptext.specs.declared.tokens.Place.{Place}
 use Rattle.pptext.specs.declared.tokens.Token.{Token}
 use Rattle.pptext.specs.declared.tokens.Fault.{Fault}
 use Rattle.pptext.specs.declared.sources.Profile.{Profile}
-use Rattle.ppmacro.specs.Substitution.{escaped_literal}
+use Rattle.ppexpand.specs.FileNames.{literal}
 use Rattle.ppmacro.specs.Names.{Name, Macros}
 use Rattle.ppmacro.specs.declared.pushed_macros.PushedMacro.{PushedMacro}
 use Rattle.ppmacro.specs.PushedMacros.{with_pushed, macros_after_pop, pushed_after_pop}
@@ -147,10 +147,6 @@ with_one_spent s = with_meter s (spend_one s.meter)
 -- the output of a unit
 abbrev pub output : Progress → UnitOut
 output r = record { items = r.state.items; deps = r.state.deps; fault = r.fault }
-
--- a name as a string literal
-abbrev pub literal : List ℕ → List ℕ
-literal name = 34 ∷ (escaped_literal name ++ 34 ∷ [])
 
 -- ---- marks
 

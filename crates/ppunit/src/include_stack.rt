@@ -2,7 +2,7 @@
 ghost use Rattle.std.specs.Prelude.{◌≡◌, ◌≤◌, ◌∷◌, [], Some, length, IfOk, MatchOption, OnOk};
 ghost use Rattle.ppunit.specs.code.Walk.{next_file, next_suspended, contexts_restored};
 
-use crate::open_file::{Entered, OpenFile};
+use crate::open_file::{Entered, EnteredParts, OpenFile};
 use crate::states::{FileContext, Resumption, State};
 use pptext::Memory;
 use std::alloc::Global;
@@ -13,7 +13,7 @@ use std::marker::Model;
 #[derive(Drop)]
 pub(crate) struct SuspendedFile<'a> {
     pub file: OpenFile<'a>,
-    pub file_context: FileContext,
+    pub file_context: FileContext<'a>,
     pub resumption: Option<Resumption>,
 }
 
@@ -67,14 +67,17 @@ impl<'a> Stack<'a> {
         ensures file { IfOk result (λ next. next ≡ next_file file.entry (Some entered.entry)) }
         ensures suspended { OnOk result (self.new ≡ next_suspended file.entry (Some entered.entry) self.old) }
     {
-        let file_context = entered.outer;
-        let resumption = entered.resumption;
+        let EnteredParts {
+            file: next,
+            outer,
+            resumption,
+        } = entered.into_parts();
         self.files.push(SuspendedFile {
             file,
-            file_context,
+            file_context: outer,
             resumption,
         })?;
-        Ok(entered.file)
+        Ok(next)
     }
 
     /// Takes the last suspended file out.
@@ -85,7 +88,7 @@ impl<'a> Stack<'a> {
     }
 
     /// Drops all files, and restores the context of each, from the last one on. None of them goes on.
-    pub(crate) fn unwind(self, state: &mut State)
+    pub(crate) fn unwind(self, state: &mut State<'a>)
         ensures { state.new ≡ contexts_restored self.entry state.old }
     {
         let mut files = self;

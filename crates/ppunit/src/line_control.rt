@@ -14,7 +14,7 @@ use crate::operand_expansion::expand_operands;
 use crate::states::State;
 use crate::units::MarkSort;
 use crate::well_formed::is_digit;
-use ppexpand::Env;
+use ppexpand::{Env, FileName};
 use pptext::{Error, Kind, Memory, Spelling, Token};
 use std::alloc::Global;
 use std::marker::Model;
@@ -87,7 +87,7 @@ fn rename(env: &mut Env, name: Option<Spelling>)
     ensures { env.new ≡ record env.old { name = spec.or_old env.old.name name } }
 {
     if let Some(name) = name {
-        env.name = name;
+        env.name = FileName::spelled(name);
     }
 }
 

@@ -233,12 +233,12 @@ fn opening_of<D: Disk>(
 /// Where execution continues: in the file `entered`, if there is one, and after it at the line at `index` of the current
 /// file.
 #[derive(Drop)]
-struct NextLine<'a> {
+struct NextLine<'x> {
     index: usize,
-    entered: Option<Entered<'a>>,
+    entered: Option<Entered<'x>>,
 }
 
-impl<'a> Model for NextLine<'a> {
+impl<'x> Model for NextLine<'x> {
     ghost use Rattle.std.specs.Prelude.{ℕ, Option};
     ghost use Rattle.ppunit.specs.code.Opening.{Entered};
 
@@ -248,7 +248,7 @@ impl<'a> Model for NextLine<'a> {
 }
 
 /// Returns the line at `index` of the current file as the next line, with no file entered.
-fn in_same_file<'a>(index: usize) -> NextLine<'a>
+fn in_same_file<'x>(index: usize) -> NextLine<'x>
     ensures { result ≡ (index, None) }
 {
     NextLine {
@@ -265,7 +265,7 @@ impl<'x, 'a: 'x, D: Disk> Preprocessor<'_, 'x, 'a, D> {
         depth: u32,
         directory: Option<usize>,
         line: &DirectiveLine<'x>,
-    ) -> Result<Option<Entered<'a>>, Error>
+    ) -> Result<Option<Entered<'x>>, Error>
         requires depth { depth ≤ 200 }
         ensures keeps_context { KeepsContext self.old self.new }
         ensures includes { UnlessOutOfMemory result (λ outcome.
@@ -294,7 +294,7 @@ impl<'x, 'a: 'x, D: Disk> Preprocessor<'_, 'x, 'a, D> {
         &mut self,
         depth: u32,
         line: DirectiveLine<'x>,
-    ) -> Result<Option<Entered<'a>>, Error>
+    ) -> Result<Option<Entered<'x>>, Error>
         requires depth { depth ≤ 200 }
         requires opens { opens_section line.directive ≡ false }
         requires ends { ends_group line.directive ≡ false }
@@ -328,7 +328,7 @@ impl<'x, 'a: 'x, D: Disk> Preprocessor<'_, 'x, 'a, D> {
         depth: u32,
         line: DirectiveLine<'x>,
         define: Option<DefineLine<'x>>,
-    ) -> Result<Option<Entered<'a>>, Error>
+    ) -> Result<Option<Entered<'x>>, Error>
         requires depth { depth ≤ 200 }
         requires opens { opens_section line.directive ≡ false }
         requires ends { ends_group line.directive ≡ false }
@@ -358,7 +358,7 @@ impl<'x, 'a: 'x, D: Disk> Preprocessor<'_, 'x, 'a, D> {
     }
 
     /// Executes consecutive text lines or one directive line. Returns where execution continues.
-    fn step(&mut self, depth: u32, file: &OpenFile<'x>) -> Result<NextLine<'a>, Error>
+    fn step(&mut self, depth: u32, file: &OpenFile<'x>) -> Result<NextLine<'x>, Error>
         requires depth { depth ≤ 200 }
         requires index { file.now.index < length file.now.lines }
         ensures keeps_context { KeepsContext self.old self.new }

@@ -7,7 +7,7 @@
 //!
 //! A file is opened here and walked in `line_walk`: `open` returns the file, the context that is restored after it, and the
 //! line at which the including file goes on, so that no function calls itself for an included file.
-ghost use Rattle.std.specs.Prelude.{◌≡◌, ◌<◌, ◌^◌, pos, length, IfOk, OnOk, IfErr, IfSome};
+ghost use Rattle.std.specs.Prelude.{◌≡◌, ◌<◌, ◌^◌, pos, length, unwrap_or, IfOk, OnOk, IfErr, IfSome};
 ghost use Rattle.std.specs.Result.{result_err};
 ghost use Rattle.pptext.specs.Errors.{UnlessOutOfMemory};
 ghost use Rattle.ppshelf.specs.Files.{Files};
@@ -15,20 +15,21 @@ ghost use Rattle.ppshelf.specs.Names.{name_in};
 ghost use Rattle.ppunit.specs.Dependencies.{has_row};
 ghost use Rattle.ppunit.specs.Directives.{FindsFile};
 ghost use Rattle.ppunit.specs.Group.{OpensFile};
-ghost use Rattle.ppunit.specs.ShownNames.{shown_or_own};
 ghost use Rattle.ppunit.specs.code.Preprocessor.{KeepsContext};
 ghost use Rattle.ppunit.specs.code.Opening.{SpendsOpening, HasLines, HasFault, Begins, opening_in, shown_as};
-ghost use Rattle.ppunit.specs.States.{Progress, file_context, with_dependency, literal, begun, leaving, running};
+ghost use Rattle.ppexpand.specs.FileNames.{literal};
+ghost use Rattle.ppunit.specs.States.{Progress, file_context, mark_in, with_dependency, begun, leaving, running};
+ghost use Rattle.ppunit.specs.declared.units.MarkSort.TheVariants.{Enter};
 ghost use Rattle.ppunit.specs.code.Contexts.{context_over};
 ghost use Rattle.ppunit.specs.code.Walk.{Leads};
 
 use crate::guards::is_left_out;
 use crate::including::IncludeName;
 use crate::preprocessor::Preprocessor;
-use crate::shown_names::Showing;
-use crate::states::{FileContext, Resumption, State, literal};
+use crate::shown_names::{Showing, ShownName};
+use crate::states::{FileContext, Resumption, State};
 use crate::units::{Mark, MarkSort};
-use ppexpand::Env;
+use ppexpand::{Env, FileName, literal};
 use ppmacro::PreparedSource;
 use ppshelf::{Directories, Disk, Pass, Shelf, resolve, resolve_next};
 use pptext::{Error, Memory, Place, Profile, Source, Spelling};
@@ -170,18 +171,42 @@ impl<'a> OpenFile<'a> {
 
 /// A file that was just opened, the context of the file that includes it, and where that goes on.
 #[derive(Drop)]
-pub(crate) struct Entered<'a> {
-    pub file: OpenFile<'a>,
-    pub outer: FileContext,
+pub(crate) struct EnteredParts<'x> {
+    pub file: OpenFile<'x>,
+    pub outer: FileContext<'x>,
     pub resumption: Option<Resumption>,
 }
 
-impl<'a> Model for Entered<'a> {
+impl<'x> Model for EnteredParts<'x> {
     ghost use Rattle.ppunit.specs.code.Opening.{Entered};
 
     ghost Value = { Entered };
 
     ghost view = { λ e. record { file = e.file; outer = e.outer; resumption = e.resumption } };
+}
+
+/// A file that was just opened. It is on the heap, since most lines enter no file, and what a line leads to is moved often.
+#[derive(Drop)]
+pub(crate) struct Entered<'x> {
+    parts: Box<EnteredParts<'x>>,
+}
+
+impl<'x> Model for Entered<'x> {
+    ghost use Rattle.ppunit.specs.code.Opening.{Entered};
+
+    ghost Value = { Entered };
+
+    ghost view = { λ e. e.parts.value };
+}
+
+impl<'x> Entered<'x> {
+    /// Returns the parts.
+    pub(crate) fn into_parts(self) -> EnteredParts<'x>
+        ensures { result ≡ self }
+    {
+        let Entered { parts } = self;
+        Box::into_inner(parts)
+    }
 }
 
 /// An open file: its index in the file table, and the number of the directory after which a search begins, if it doesn't begin
@@ -219,11 +244,11 @@ impl Model for Opening {
 }
 
 /// Returns the predefined names at the beginning of a file.
-fn file_env(alloc: Global, outer: &Env, name: &[u8]) -> Result<Env, Memory>
-    ensures { IfOk result (λ e. e ≡ record outer.now { name = literal name.now; shift = pos 0 }) }
+fn file_env<'x>(outer: &Env<'_>, name: FileName<'x>) -> Result<Env<'x>, Memory>
+    ensures { IfOk result (λ e. e ≡ record outer.now { name = name.entry; shift = pos 0 }) }
 {
     Ok(Env {
-        name: literal(alloc, name)?,
+        name,
         shift: 0,
         date: outer.date.clone()?,
         time: outer.time.clone()?,
@@ -321,94 +346,133 @@ fn record_dependency(state: &mut State, row: usize) -> Result<bool, Memory>
     Ok(is_once)
 }
 
-/// Returns the name under which a file is shown that is to be opened.
-fn opened_name<'r, D: Disk>(context: &'r UnitContext<'_, '_, D>, opening: &'r Opening) -> &'r [u8]
-    requires { opening.now.row < length context.now.shelf.names }
-    ensures { result.now ≡ shown_or_own context.now.shelf.names opening.now.row opening.now.shown }
+/// Returns the name that a file has in the file table.
+fn own_name<'a, D: Disk>(context: &UnitContext<'a, '_, D>, row: usize) -> &'a [u8]
+    requires { row < length context.now.shelf.names }
+    ensures { result.now ≡ name_in context.now.shelf.names row }
 {
-    match &opening.shown {
-        Some(shown) => shown.as_bytes(),
-        None => context.shelf().name(opening.row).as_bytes(),
+    context.shelf().name(row).as_bytes()
+}
+
+/// Returns the presumed name of a file before its first line, if this is its own name.
+fn first_name<'x>(
+    alloc: Global,
+    own: &'x [u8],
+    shown: &Option<Spelling>,
+) -> Result<FileName<'x>, Memory>
+    ensures { IfOk result (λ name. name ≡ literal (unwrap_or shown.now own.now)) }
+{
+    match shown {
+        Some(shown) => Ok(FileName::spelled(Spelling::new(literal(alloc, shown.as_bytes())?)?)),
+        None => Ok(FileName::of_file(own)),
     }
 }
 
-/// Enters a file under this shown name. Returns the context of the including file.
-fn enter_file(
+/// Enters a file with this own name. Returns the context of the including file.
+fn enter_file<'x>(
     alloc: Global,
-    state: &mut State,
+    state: &mut State<'x>,
     at: Place,
-    opening: &Opening,
-    name: &[u8],
-) -> Result<FileContext, Memory>
+    opening: Opening,
+    own: &'x [u8],
+) -> Result<FileContext<'x>, Memory>
     ensures outer { IfOk result (λ outer. outer ≡ file_context state.old) }
-    ensures begun { OnOk result (state.new ≡ begun at state.old opening.now.row (shown_as name.now opening.now)) }
+    ensures begun { OnOk result (state.new ≡ begun at state.old opening.row (shown_as (unwrap_or opening.shown own.now) opening)) }
 {
-    let env = file_env(alloc, &state.file_context.env, name)?;
-    let shown = Spelling::from_slice(alloc, name)?;
+    let Opening {
+        row,
+        directory,
+        shown,
+        system,
+        resumption: _,
+    } = opening;
+    let name = first_name(alloc, own, &shown)?;
+    let env = file_env(&state.file_context.env, name)?;
     let outer = state.enter(FileContext {
         env,
-        directory: opening.directory,
-        shown,
-        system: opening.system,
+        directory,
+        shown: ShownName::of(own, shown),
+        system,
     });
-    state.note_system(opening.system, opening.row)?;
-    state.emit_mark(MarkSort::Enter(at), opening.row, 0)?;
+    state.note_system(system, row)?;
+    state.emit_mark(MarkSort::Enter(at), row, 0)?;
     Ok(outer)
 }
 
-/// Enters a file under this shown name, and leaves it at once: emits two marks.
+/// Returns the mark at which a file with this own name begins.
+fn first_mark(
+    alloc: Global,
+    state: &State,
+    at: Place,
+    opening: &Opening,
+    own: &[u8],
+) -> Result<Mark, Memory>
+    ensures { IfOk result (λ m. m ≡ mark_in (record state.now.env { name = literal (unwrap_or opening.now.shown own.now); shift = pos 0 }) state.now.system_rows (Enter at) opening.now.row 0) }
+{
+    let shown = match &opening.shown {
+        Some(shown) => shown.as_bytes(),
+        None => own,
+    };
+    Ok(Mark {
+        sort: MarkSort::Enter(at),
+        row: opening.row,
+        physical: 1,
+        line: 1,
+        name: Spelling::new(literal(alloc, shown)?)?,
+        system: state.system_rows.contains(opening.row),
+    })
+}
+
+/// Enters a file with this own name, and leaves it at once: emits two marks.
 fn skip_file(
     alloc: Global,
     state: &mut State,
     at: Place,
     opening: &Opening,
-    name: &[u8],
+    own: &[u8],
 ) -> Result<(), Memory>
-    ensures { OnOk result (running state.new ≡ leaving state.old (shown_as name.now opening.now)
-        (running (begun at state.old opening.now.row (shown_as name.now opening.now)))) }
+    ensures { OnOk result (running state.new ≡ leaving state.old (shown_as (unwrap_or opening.now.shown own.now) opening.now)
+        (running (begun at state.old opening.now.row (shown_as (unwrap_or opening.now.shown own.now) opening.now)))) }
 {
     state.note_system(opening.system, opening.row)?;
     if !state.keeps {
         return Ok(());
     }
-    let mark = Mark {
-        sort: MarkSort::Enter(at),
-        row: opening.row,
-        physical: 1,
-        line: 1,
-        name: literal(alloc, name)?,
-        system: state.system_rows.contains(opening.row),
-    };
+    let mark = first_mark(alloc, state, at, opening, own)?;
     state.items.push_mark(mark)?;
     state.resume(opening.resumption)
 }
 
-/// Enters a file with these lines under this shown name, before its first line. Returns nothing if its include guard is
+/// Enters a file with these lines and this own name, before its first line. Returns nothing if its include guard is
 /// defined: then its lines have no effect, and neither has its end, unless an invocation waits.
-fn begin<'a>(
+fn begin<'x>(
     alloc: Global,
-    state: &mut State,
+    state: &mut State<'x>,
     at: Place,
-    opening: &Opening,
-    name: &[u8],
-    source: &'a PreparedSource,
-) -> Result<Option<Entered<'a>>, Memory>
-    ensures { IfOk result (λ entered. Begins at opening.now.row (shown_as name.now opening.now) source.now state.old state.new entered) }
+    opening: Opening,
+    own: &'x [u8],
+    source: &'x PreparedSource,
+) -> Result<Option<Entered<'x>>, Memory>
+    ensures { IfOk result (λ entered. Begins at opening.row (shown_as (unwrap_or opening.shown own.now) opening) source.now state.old state.new entered) }
 {
     if !state.is_waiting() && is_left_out(state, source.source()) {
-        skip_file(alloc, state, at, opening, name)?;
+        skip_file(alloc, state, at, &opening, own)?;
         return Ok(None);
     }
-    let outer = enter_file(alloc, state, at, opening, name)?;
+    let resumption = opening.resumption;
     let file = OpenFile::new(opening.row, source);
-    Ok(Some(Entered {
+    let outer = enter_file(alloc, state, at, opening, own)?;
+    let parts = EnteredParts {
         file,
         outer,
-        resumption: opening.resumption,
+        resumption,
+    };
+    Ok(Some(Entered {
+        parts: Box::new(alloc, parts)?,
     }))
 }
 
-impl<'a, D: Disk> Preprocessor<'_, '_, 'a, D> {
+impl<'x, 'a: 'x, D: Disk> Preprocessor<'_, 'x, 'a, D> {
     /// Returns the lines of the file at index `row`. Fault 6 if it can't be read, or the fault of its own lines.
     fn source_of(&mut self, at: Place, row: usize) -> Result<&'a PreparedSource, Error>
         requires { row < length self.old.context.now.shelf.names }
@@ -438,7 +502,7 @@ impl<'a, D: Disk> Preprocessor<'_, '_, 'a, D> {
         depth: u32,
         at: Place,
         opening: Opening,
-    ) -> Result<Option<Entered<'a>>, Error>
+    ) -> Result<Option<Entered<'x>>, Error>
         requires { opening.row < length self.old.context.now.shelf.names }
         ensures keeps_context { KeepsContext self.old self.new }
         ensures opened { UnlessOutOfMemory result (λ outcome.
@@ -454,8 +518,8 @@ impl<'a, D: Disk> Preprocessor<'_, '_, 'a, D> {
             return Ok(None);
         }
         let source = self.source_of(at, row)?;
-        let name = opened_name(context, &opening);
+        let own = own_name(context, row);
         let state = &mut self.state;
-        Ok(begin(context.alloc, state, at, &opening, name, source)?)
+        Ok(begin(context.alloc, state, at, opening, own, source)?)
     }
 }

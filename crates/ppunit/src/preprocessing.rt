@@ -26,10 +26,10 @@ ghost use Rattle.ppunit.specs.code.Walk.{DefinesOver};
 use crate::collections::{Items, Rows};
 use crate::command_macros::{COMMAND_FILE, CommandMacros};
 use crate::laws::{budget_caps_units, stays_in_budget};
-use crate::open_file::{OpenFile, Opening, UnitContext};
+use crate::open_file::{EnteredParts, OpenFile, Opening, UnitContext};
 use crate::preprocessor::Preprocessor;
 use crate::shown_names::{Showing, copy_shown};
-use crate::states::{Resumption, State, literal};
+use crate::states::{Resumption, State};
 use crate::units::{FirstFile, MarkSort, Setting, Unit, UnitOut};
 use ppshelf::{Directories, Disk, Pass, Shelf};
 use pptext::{Error, Fault, Memory, Place, tree_unless_fault};
@@ -67,10 +67,15 @@ impl<'x, 'a: 'x, D: Disk> Preprocessor<'_, 'x, 'a, D> {
         let Some(entered) = self.open(depth, at, opening)? else {
             return Ok(());
         };
-        let walked = self.walk(depth, entered.file);
-        self.state.restore_context(entered.outer);
+        let EnteredParts {
+            file,
+            outer,
+            resumption,
+        } = entered.into_parts();
+        let walked = self.walk(depth, file);
+        self.state.restore_context(outer);
         walked?;
-        self.state.resume(entered.resumption)?;
+        self.state.resume(resumption)?;
         Ok(())
     }
 
@@ -82,8 +87,7 @@ impl<'x, 'a: 'x, D: Disk> Preprocessor<'_, 'x, 'a, D> {
             ≡ marked (named self.old.state (main_name self.old.context.now.shelf.names unit.now)) MarkLine unit.now.file 0) }
     {
         let context = self.context;
-        let literal = literal(context.alloc, main_name(context, unit))?;
-        self.state.set_name(literal);
+        self.state.set_name(main_name(context, unit));
         self.state.emit_mark(MarkSort::Line, unit.file, 0)
     }
 
@@ -202,7 +206,7 @@ impl<'x, 'a: 'x, D: Disk> Preprocessor<'_, 'x, 'a, D> {
 }
 
 /// Returns the name under which the unit's own file is shown.
-fn main_name<'r, D: Disk>(context: &'r UnitContext<'_, '_, D>, unit: &'r Unit) -> &'r [u8]
+fn main_name<'x, 'a: 'x, D: Disk>(context: &UnitContext<'a, '_, D>, unit: &'x Unit) -> &'x [u8]
     requires { unit.now.file < length context.now.shelf.names }
     ensures { result.now ≡ main_name context.now.shelf.names unit.now }
 {

@@ -20,6 +20,51 @@ use pptext::{Memory, OwnedText, Spelling};
 use std::alloc::Global;
 use std::marker::Model;
 
+/// What the name under which a file is shown is kept as: its own in the file table, or another.
+#[derive(Drop)]
+enum Name<'x> {
+    Own(&'x [u8]),
+    Other(Spelling),
+}
+
+/// The name under which a file is shown. Contracts see its bytes.
+#[derive(Drop)]
+pub(crate) struct ShownName<'x> {
+    name: Name<'x>,
+}
+
+impl<'x> Model for ShownName<'x> {
+    ghost use Rattle.std.specs.Prelude.{List, ℕ};
+    ghost use Rattle.ppunit.specs.declared.shown_names.Name.TheVariants.{Own, Other};
+
+    ghost Value = { List ℕ };
+
+    ghost view = { λ n. elim n.name [ Own bytes ↦ bytes.now | Other text ↦ text ] };
+}
+
+impl<'x> ShownName<'x> {
+    /// Returns the name of a file that has this own name, and is shown by the other if there is one.
+    pub(crate) fn of(own: &'x [u8], other: Option<Spelling>) -> ShownName<'x>
+        ensures { result ≡ unwrap_or other own.now }
+    {
+        let name = match other {
+            Some(text) => Name::Other(text),
+            None => Name::Own(own),
+        };
+        ShownName { name }
+    }
+
+    /// Returns the bytes of the name.
+    pub(crate) fn as_bytes(&self) -> &[u8]
+        ensures { result.now ≡ self.now }
+    {
+        match &self.name {
+            Name::Own(bytes) => bytes,
+            Name::Other(text) => text.as_bytes(),
+        }
+    }
+}
+
 /// How the files of a unit are shown: whether the unit shows names, and how the directories that are searched are shown, the
 /// unit's before the setting's.
 #[derive(Drop)]

@@ -1,17 +1,17 @@
 //! The state of phase 4 in a unit.
 ghost use Rattle.std.specs.Prelude.{◌≡◌, ◌<◌, ◌+◌, pos, ◌+ℤ◌, nat_abs, IfOk, OnOk, true, false, [], ◌∷◌, ◌++◌, ◌==◌, ◌||◌, None, length};
 ghost use Rattle.std.specs.List.{list_any};
-ghost use Rattle.ppmacro.specs.Substitution.{escaped_literal};
 ghost use Rattle.ppexpand.specs.Budget.{is_exhausted};
-ghost use Rattle.ppunit.specs.States.{file_context, in_file_context, emitted, marked, resumed, running, with_system_row, with_dependency, with_once, with_macro_pushed, with_macro_popped, with_one_spent, with_waiting, literal};
+ghost use Rattle.ppunit.specs.States.{file_context, in_file_context, emitted, marked, resumed, running, with_system_row, with_dependency, with_once, with_macro_pushed, with_macro_popped, with_one_spent, with_waiting, named};
 ghost use Rattle.ppmacro.specs.Predefined.{initial_macros};
 ghost use Rattle.ppunit.specs.Unit.{initial_state, state_before};
 ghost use Rattle.ppunit.specs.declared.units.Item.TheVariants as item;
 
 use crate::collections::{Items, Rows};
+use crate::shown_names::ShownName;
 use crate::units::{Mark, MarkSort, Setting};
-use ppexpand::{Env, Meter, Scratch, TokenList, WaitingTokens};
-use ppmacro::{PushedMacros, Table, push_escaped};
+use ppexpand::{Env, FileName, Meter, Scratch, TokenList, WaitingTokens};
+use ppmacro::{PushedMacros, Table};
 use pptext::{Hashing, Memory, Place, Profile, Spelling, Token};
 use std::alloc::Global;
 use std::marker::Model;
@@ -20,10 +20,10 @@ use std::mem::replace;
 /// The context of a file: the values of the predefined names in it, the number of the directory in which it was found (the
 /// main file has no such number), its shown name, and whether it is a system header.
 #[derive(Drop)]
-pub(crate) struct FileContext {
-    pub env: Env,
+pub(crate) struct FileContext<'x> {
+    pub env: Env<'x>,
     pub directory: Option<usize>,
-    pub shown: Spelling,
+    pub shown: ShownName<'x>,
     pub system: bool,
 }
 
@@ -48,7 +48,7 @@ pub(crate) struct State<'x> {
     pub once: Rows,
     pub pushed: PushedMacros<'x>,
     pub meter: Meter,
-    pub file_context: FileContext,
+    pub file_context: FileContext<'x>,
     pub system_rows: Rows,
     /// The tokens of a macro invocation without its `)`, between whose arguments there are directives.
     pub waiting: WaitingTokens<'x>,
@@ -107,11 +107,11 @@ impl<'x> State<'x> {
     fn initial(
         macros: Table<'x>,
         meter: Meter,
-        env: Env,
+        env: Env<'x>,
         scratch: Scratch<'x>,
         keeps: bool,
     ) -> State<'x>
-        ensures { result ≡ record { macros = macros.entry.macros; keeps = keeps; items = []; deps = []; once = []; pushed = []; meter = meter; env = env; directory = None; shown = []; system = false; system_rows = []; waiting = [] } }
+        ensures { result ≡ record { macros = macros.entry.macros; keeps = keeps; items = []; deps = []; once = []; pushed = []; meter = meter; env = env.entry; directory = None; shown = []; system = false; system_rows = []; waiting = [] } }
     {
         let mut scratch = scratch;
         let alloc = scratch.alloc();
@@ -127,7 +127,7 @@ impl<'x> State<'x> {
             file_context: FileContext {
                 env,
                 directory: None,
-                shown: Spelling::empty(),
+                shown: ShownName::of(b"", None),
                 system: false,
             },
             system_rows: Rows::new(alloc),
@@ -137,25 +137,25 @@ impl<'x> State<'x> {
     }
 
     /// Enters a file with the context `inner`. Returns the context of the including file.
-    pub(crate) fn enter(&mut self, inner: FileContext) -> FileContext
+    pub(crate) fn enter(&mut self, inner: FileContext<'x>) -> FileContext<'x>
         ensures outer { result ≡ file_context self.old }
-        ensures inner { self.new ≡ in_file_context inner self.old }
+        ensures inner { self.new ≡ in_file_context inner.entry self.old }
     {
         replace(&mut self.file_context, inner)
     }
 
     /// Returns to a file with the context `outer`.
-    pub(crate) fn restore_context(&mut self, outer: FileContext)
-        ensures { self.new ≡ in_file_context outer self.old }
+    pub(crate) fn restore_context(&mut self, outer: FileContext<'x>)
+        ensures { self.new ≡ in_file_context outer.entry self.old }
     {
         self.file_context = outer;
     }
 
-    /// Gives the current file, from its first line on, the presumed name that this literal spells.
-    pub(crate) fn set_name(&mut self, literal: Spelling)
-        ensures { self.new ≡ record self.old { env = record self.old.env { name = literal; shift = pos 0 } } }
+    /// Gives the current file, from its first line on, this presumed name.
+    pub(crate) fn set_name(&mut self, name: &'x [u8])
+        ensures { self.new ≡ named self.old name.now }
     {
-        self.file_context.env.name = literal;
+        self.file_context.env.name = FileName::of_file(name);
         self.file_context.env.shift = 0;
     }
 
@@ -176,13 +176,13 @@ impl<'x> State<'x> {
         if !self.keeps {
             return Ok(());
         }
-        let name = self.file_context.env.name.clone()?;
+        let literal = self.file_context.env.name.literal(self.scratch.alloc())?;
         let mark = Mark {
             sort,
             row,
             physical: last as usize + 1,
             line: presumed_number(&self.file_context.env, last),
-            name,
+            name: Spelling::new(literal)?,
             system: self.system_rows.contains(row),
         };
         self.items.push_mark(mark)
@@ -296,13 +296,13 @@ fn initial_macros<'x>(
 }
 
 /// Returns the predefined names before any file is entered.
-fn initial_env(alloc: Global, setting: &Setting) -> Result<Env, Memory>
+fn initial_env<'x>(alloc: Global, setting: &Setting) -> Result<Env<'x>, Memory>
     ensures { IfOk result (λ e. e ≡ (initial_state setting.now).env) }
 {
     let date = to_spelling(alloc, setting.date.as_str())?;
     let time = to_spelling(alloc, setting.time.as_str())?;
     Ok(Env {
-        name: Spelling::empty(),
+        name: FileName::spelled(Spelling::empty()),
         shift: 0,
         date,
         time,
@@ -323,32 +323,4 @@ fn to_spelling(alloc: Global, text: &str) -> Result<Spelling, Memory>
     ensures { IfOk result (λ s. s ≡ text.now) }
 {
     Spelling::from_slice(alloc, text.as_bytes())
-}
-
-/// Returns whether a string literal of this text has a `\` before one of its bytes.
-fn needs_escape(text: &[u8]) -> bool
-    ensures { result ≡ list_any (λ b. b == 34 || b == 92) text.now }
-{
-    text.iter().any(|byte| *byte == b'"' || *byte == b'\\')
-}
-
-/// Appends a name, with `\` before each `"` and `\`. Most names need none, and are copied at once.
-fn push_name(text: &mut Vec<u8>, name: &[u8]) -> Result<(), Memory>
-    ensures { OnOk result (text.new.items ≡ text.old.items ++ escaped_literal name.now) }
-{
-    if needs_escape(name) {
-        return push_escaped(text, name);
-    }
-    text.extend_from_slice(name)
-}
-
-/// Returns a name as a string literal: between `"`, with `\` before each `"` and `\`.
-pub(crate) fn literal(alloc: Global, name: &[u8]) -> Result<Spelling, Memory>
-    ensures { IfOk result (λ s. s ≡ literal name.now) }
-{
-    let mut text = Vec::with_capacity(alloc, name.len() + 2)?;
-    text.push(b'"')?;
-    push_name(&mut text, name)?;
-    text.push(b'"')?;
-    Spelling::new(text)
 }
