@@ -3,8 +3,8 @@
 use crate::defining::{directed, env, source_of};
 use crate::showing::assert_shown;
 use ppexpand::{
-    Expanded, Meter, OpenExpansion, Piece, Scratch, TokenList, TokenRef, TokenSlice, WaitingTokens,
-    expand, expand_list, expand_open,
+    Expanded, FileName, Meter, OpenExpansion, Piece, Scratch, TokenList, TokenRef, TokenSlice,
+    WaitingTokens, expand, expand_list, expand_open, literal,
 };
 use ppmacro::{Hidden, Table};
 use pptext::{BoxedFault, Hashing, Memory, Source, Token};
@@ -414,5 +414,19 @@ fn leaves_no_invocation_of_a_replacement_open(rt: HostRuntime) -> Result<(), Fai
     let mut table = Table::new(rt.alloc())?;
     let tokens = directed(&rt, rt.alloc(), &mut table, &source)?;
     assert_nothing_open(&rt, rt.alloc(), &table, tokens)?;
+    Ok(())
+}
+
+#[test]
+fn names_of_files_are_spelled_as_literals(rt: HostRuntime) -> Result<(), Fail> {
+    let alloc = rt.alloc();
+    let own = FileName::of_file(b"a\\\"b");
+    let spelled = own.literal(alloc)?;
+    assert!(&rt;
+        spelled.as_slice() == b"\"a\\\\\\\"b\"",
+        "a name with quotes"
+    );
+    let plain = literal(alloc, b"a.c")?;
+    assert!(&rt; plain.as_slice() == b"\"a.c\"", "a name without quotes");
     Ok(())
 }
