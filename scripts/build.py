@@ -8,21 +8,23 @@ import sys
 import tempfile
 import time
 
-from commands import Report, commands
+from commands import LeftOut, Report, commands
 from common import DONE, PARTLY, STREAM, Refused, parser, run, say, units, units_of, written
 from compilers import SECONDS, CompilerAdditions, Compilers
+from database import Compilation, Database, NoEntry
 from deps import FORMS, Places, Result, deps
 from faults import forms, print_faults, wants_color
 from lists import Builder, bytes_of, list_of
 from runs import Program, gather_all
-from text import write_text
+from text import text_of, write_text
 
 TEXT = """\
 Preprocess the C units of a build, as its compile_commands.json has them.
 
   build.py deps     write a dependency file for each unit, like gcc -MD, or print JSON or rules: --format
   build.py dump     print the tokens and dependencies of each unit, like `cppunits dump`
-  build.py text     print each unit as text that a compiler takes, like `cppunits text`, or write it to a file: --into
+  build.py text     print each unit as text that a compiler takes, like `cppunits text`, or write it to a file: --into;
+                    that directory's compile_commands.json compiles the texts
   build.py faults   print the first fault of each unit that has one, like faults.py: by file, line and column
 
 Example, in a project's build directory:  build.py faults compile_commands.json
@@ -214,19 +216,27 @@ def text(work):
     if work.asked.into is None:
         printed(work, "text")
         return
+    database = Database(work.asked.into)
     work.prepare()
     places = TextPlaces(work.asked.build, work.asked.into)
     for unit, (command, _) in zip(units_of("the output", work.lines("text")), work.pairs):
         try:
             path = places.own(Result(command, [], [], None), unit.number, work.report)
             if unit.fault is None:
-                write_text(unit, path)
+                compilation = Compilation(command, b"".join(text_of(unit)))
+                write_text(compilation.text, path)
+                database.entries.append(compilation.entry(path, work.compilers.is_clang(command)))
             else:
                 work.report.say("%s: fault %s, so there is no text (`build.py faults` says more)" % (command.file, unit.fault.split(" ")[0]))
-        except Refused as refusal:
+        except NoEntry as reason:
+            work.report.add("%s: no entry in %s: %s" % (command.file, database.path, reason))
+        except (Refused, LeftOut) as refusal:
             work.report.add("%s: %s" % (command.file, refusal))
         except OSError as error:
             work.fail("%s: %s: %s" % (command.file, error.filename, error.strerror))
+    database.write()
+    if len(database.entries) < work.units:
+        work.report.say("%d of %d units have no entry in %s" % (work.units - len(database.entries), work.units, database.path))
 
 
 def faults(work):

@@ -61,8 +61,8 @@ class Wanted:
 class Command:
     """Holds what a command asks of the preprocessor: directories, definitions in order, and files to include first.
 
-    `compiler` is the word that names the compiler, after ccache and the like.  `asking` has the options that change what the compiler
-    answers.  `spelled` has the names of the command's file and directories as it spells them.  `wanted` has what it says of its dependency
+    `compiler` is the word that names the compiler, after ccache and the like.  `before` has the words up to it, `words` those after it.
+    `asking` has the options that change what the compiler answers.  `spelled` has the names of the command's file and directories as it spells them.  `wanted` has what it says of its dependency
     file.  `trigraphs` says whether gcc replaces trigraphs under the command's options."""
 
     def __init__(self, entry, report):
@@ -90,7 +90,8 @@ class Command:
         words = list(entry["arguments"]) if entry.get("arguments") is not None else split_command(entry["command"])
         at_word = compiler_at(words)
         self.compiler = words[at_word] if at_word < len(words) else ""
-        return list(with_responses(self.directory, words[at_word + 1:], 0))
+        self.before, self.words = words[:at_word + 1], words[at_word + 1:]
+        return list(with_responses(self.directory, self.words, 0))
 
     def options(self, words):
         """Yields the options that are read, each with its value, and reports those that can't be read."""

@@ -107,6 +107,11 @@ class Compilers:
             self.ask_for([command])
         return self.answers[key]
 
+    def is_clang(self, command):
+        """Returns whether the command's compiler is clang, by its macros, or by its name if it isn't asked."""
+        answer = self.answer(command)
+        return "clang" in os.path.basename(command.compiler) if answer is None else "__clang__" in answer.macros
+
     def ask_for(self, all_commands):
         """Gets all answers that these commands need."""
         keys = [key for key in unique(map(self.key, all_commands)) if key not in self.answers]

@@ -2,6 +2,7 @@
 
 Phase 3 drops comments, and gcc looks for these in preprocessed text, too (-Wimplicit-fallthrough).  A comment is white space, so the tokens
 stay as they are."""
+import functools
 import os
 import re
 
@@ -15,6 +16,7 @@ MARKER = re.compile(rb'# (\d+) "((?:[^"\\]|\\.)*)"((?: \d)*)')
 COMMENT = b"/*FALLTHRU*/"
 
 
+@functools.lru_cache(maxsize=None)
 def lines_behind(path):
     """Returns the lines of a file whose first token comes behind such a comment."""
     data = content(path)
@@ -23,15 +25,12 @@ def lines_behind(path):
 
 def with_comments(text, directory):
     """Returns the text with such a comment in front of each line that has one in its source; headers of the system cause no warnings."""
-    out, known, lines, number = [], {}, (), 0
+    out, lines, number = [], (), 0
     for line in text.split(b"\n"):
         found = MARKER.fullmatch(line)
         if found:
             name = os.path.join(os.fsencode(directory), re.sub(rb"\\(.)", rb"\1", found[2]))
-            if b"3" in found[3].split():
-                lines = ()
-            else:
-                lines = known[name] if name in known else known.setdefault(name, lines_behind(name))
+            lines = () if b"3" in found[3].split() else lines_behind(name)
             number = int(found[1]) - 1
         elif number in lines and line.strip() and line[:1] != b"#":
             body = line.lstrip(b" ")

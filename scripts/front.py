@@ -9,7 +9,7 @@ import time
 
 from commands import LeftOut, place, split_command
 from common import Refused, say, written
-from parsed import Parsed
+from parsed import Parsed, stray
 
 TEXT = """\
 usage: cppunits-cc OPTION.. FILE..
@@ -33,10 +33,6 @@ FAILED, INTERRUPTED = 1, 130
 # Python ignores these signals, which programs that it runs aren't to do
 IGNORED = (signal.SIGPIPE, signal.SIGXFSZ)
 MARKER = re.compile(rb'^# \d+ "((?:[^"\\]|\\.)*)"((?: \d)*)\n', re.MULTILINE)
-STRAY = re.compile(rb"^ +(#|%:)", re.MULTILINE)
-# gcc and clang hold these warnings back where a macro's tokens cause them, which text doesn't say
-IN_MACROS = ("address", "tautological-compare", "int-in-bool-context", "logical-not-parentheses", "misleading-indentation")
-IN_MACROS_OF_CLANG = ("parentheses-equality", "tautological-compare", "constant-logical-operand", "self-assign", "unused-value")
 
 
 class Real:
@@ -208,9 +204,9 @@ class Front:
     def check(self, unit):
         """Refuses a text that a compiler would read in another way; no C program has such a token."""
         from units import Stopped
-        stray = STRAY.search(unit.text) if self.asked.step != "-E" and not self.asked.rules else None
-        if stray:
-            raise Stopped("%s: error: stray '%s' in program" % (unit.source.name, stray[1].decode()))
+        reason = stray(unit.text) if self.asked.step != "-E" and not self.asked.rules else None
+        if reason:
+            raise Stopped("%s: error: %s" % (unit.source.name, reason))
 
     def printed(self, made):
         """Prints texts, or rules."""
@@ -228,35 +224,17 @@ class Front:
         for unit in made:
             base = os.path.splitext(os.path.basename(unit.source.name))[0]
             unit.source.text = self.folder.write(base + ".i", self.for_compiler(unit))
-        status = run(self.real.command(self.second()))
+        status = run(self.real.command(self.asked.second(self.real.is_clang())))
         if status == 0:
             self.write_rules(made)
         return status or (FAILED if stopped else 0)
 
     def for_compiler(self, unit):
         """Returns a text with the comments that the compiler looks for."""
-        words = self.asked.words
-        if not any(word in ("-W", "-Wextra") or word.startswith("-Wimplicit-fallthrough") for word in words):
+        if not self.asked.wants_comments():
             return unit.text
         from fallthrough import with_comments
         return with_comments(unit.text, self.cwd)
-
-    def second(self):
-        """Returns the words for the compiler after the preprocessor: each C file is its text, or left out if it has none."""
-        sources, found = self.asked.sources(), list(self.asked.own) if self.asked.others() else []
-        for word in self.asked.rest:
-            if isinstance(word, tuple):
-                found += word
-            elif word in sources:
-                found += ["-x", "cpp-output", word.text, "-x", "none"] if word.text else []
-            else:
-                found.append(word if isinstance(word, str) else word.name)
-        if self.asked.output is not None:
-            found += ["-o", self.asked.output]
-        clang = self.real.is_clang()
-        if "-Werror" in found:
-            found += ["-Wno-error=" + name for name in (IN_MACROS_OF_CLANG if clang else IN_MACROS)]
-        return found + ["-fno-trigraphs", "-Wno-unused-command-line-argument"] * clang
 
     def beside(self):
         """Returns whether a dependency file is wanted beside the object."""

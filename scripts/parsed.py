@@ -1,5 +1,6 @@
 """Reads the command line of a compiler: its inputs, what is asked of the preprocessor, and the words for the compiler after it."""
 import os
+import re
 
 from commands import DEPENDING, NOT_READ, WORD_BEHIND, option_of, with_responses
 
@@ -20,6 +21,10 @@ STEPS = ("-E", "-fsyntax-only", "-S", "-c")
 SUFFIXES = {".c": "c", ".h": "c-header", ".i": "cpp-output", ".s": "assembler", ".o": "object", ".lo": "object", ".a": "object", ".so": "object"}
 # inputs in these languages aren't preprocessed
 FINISHED = {"cpp-output", "c++-cpp-output", "assembler", "ir", "object"}
+STRAY = re.compile(rb"^ +(#|%:)", re.MULTILINE)
+# gcc and clang hold these warnings back where a macro's tokens cause them, which text doesn't say
+IN_MACROS = ("address", "tautological-compare", "int-in-bool-context", "logical-not-parentheses", "misleading-indentation")
+IN_MACROS_OF_CLANG = ("parentheses-equality", "tautological-compare", "constant-logical-operand", "self-assign", "unused-value")
 
 
 class Input:
@@ -103,6 +108,41 @@ class Parsed:
         """Returns whether there are inputs in other languages, which may have to be preprocessed."""
         sources = self.sources()
         return any(one.language not in FINISHED for one in self.inputs if one not in sources)
+
+    def second(self, clang):
+        """Returns the words for the compiler after the preprocessor: each C file is its text, or left out if it has none."""
+        sources, found = self.sources(), list(self.own) if self.others() else []
+        for word in self.rest:
+            if isinstance(word, tuple):
+                found += word
+            elif word in sources:
+                found += ["-x", "cpp-output", word.text, "-x", "none"] if word.text else []
+            else:
+                found.append(word if isinstance(word, str) else word.name)
+        if self.output is not None:
+            found += ["-o", self.output]
+        if "-Werror" in found:
+            found += ["-Wno-error=" + name for name in (IN_MACROS_OF_CLANG if clang else IN_MACROS)]
+        return found + ["-fno-trigraphs", "-Wno-unused-command-line-argument"] * clang
+
+    def wants_comments(self):
+        """Returns whether gcc looks for comments in the text which say that a case goes on in the next."""
+        return any(word in ("-W", "-Wextra") or word.startswith("-Wimplicit-fallthrough") for word in self.words)
+
+    def renamed(self, text):
+        """Returns what is wrong with a text that has `__FILE__` of a file whose name the compiler would change there, or None."""
+        for option, sign, value in (word.partition("=") for word in self.words):
+            if sign and option in ("-fmacro-prefix-map", "-ffile-prefix-map"):
+                old = re.escape(os.fsencode(value.rpartition("=")[0]).replace(b"\\", b"\\\\").replace(b'"', b'\\"'))
+                if re.search(b'^(?!# ).*"' + old, text, re.MULTILINE):
+                    return "%s isn't supported for its __FILE__" % option
+        return None
+
+
+def stray(text):
+    """Returns what is wrong with a text that a compiler would read in another way, or None; no C program has such a token."""
+    found = STRAY.search(text)
+    return found and "stray '%s' in program" % found[1].decode()
 
 
 def is_unknown(word):

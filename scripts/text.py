@@ -29,15 +29,14 @@ def text_of(unit):
     return found
 
 
-def write_text(unit, path):
-    """Writes a unit's text to a file; refuses to replace a file of another kind."""
-    lines = text_of(unit)
+def write_text(text, path):
+    """Writes a text to a file; refuses to replace a file of another kind."""
     if path != "-" and os.path.isfile(path):
         with open(path, "rb") as file:
             if not MARKER.match(file.read(100)):
                 raise Refused("%s is there and is no text of a compiler's preprocessor, so it stays" % path)
     with written(path) as file:
-        file.writelines(lines)
+        file.write(text)
 
 
 def main():
@@ -57,7 +56,7 @@ def main():
             say("unit %d, %s: fault %s" % (unit.number, os.fsdecode(unit.name), unit.fault))
             status = PARTLY
         if unit.fault is None or asked.partial:
-            write_text(unit, "-" if asked.into is None else os.path.join(asked.into, own))
+            write_text(b"".join(text_of(unit)), "-" if asked.into is None else os.path.join(asked.into, own))
     if asked.into is None and not found:
         raise Refused("there is no unit %d" % asked.unit)
     return status

@@ -121,16 +121,9 @@ class Maker:
         if unit.fault is not None:
             number = unit.fault.split(" ")[0]
             raise Stopped("%s: fault %s of cppunits" % (source.name, number), lambda: self.tell(listed, unit))
-        self.check_names(source.name, unit.text)
+        if reason := self.front.asked.renamed(unit.text):
+            raise Stopped("%s: error: %s" % (source.name, reason))
         return Unit(source, command, unit.text, builder)
-
-    def check_names(self, name, text):
-        """Refuses a text that has `__FILE__` of a file whose name the compiler would change there."""
-        for option, sign, value in (word.partition("=") for word in self.front.asked.words):
-            if sign and option in ("-fmacro-prefix-map", "-ffile-prefix-map"):
-                old = re.escape(os.fsencode(value.rpartition("=")[0]).replace(b"\\", b"\\\\").replace(b'"', b'\\"'))
-                if re.search(b'^(?!# ).*"' + old, text, re.MULTILINE):
-                    raise Stopped("%s: error: %s isn't supported for its __FILE__" % (name, option))
 
     def command(self, source, notes):
         """Returns the command of an input, and a builder for its list."""

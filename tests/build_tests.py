@@ -436,7 +436,7 @@ class Texts(Builds):
         self.assertEqual((printed, len(messages)), ("", 2))
         self.assertIn("t/o/b.i is that of another command, so its .i file is t/o/b.2.i", messages[0])
         found = sorted(os.path.relpath(os.path.join(folder, name), self.path("t")) for folder, _, names in os.walk(self.path("t")) for name in names)
-        self.assertEqual(found, ["a.i", "d/b.c.i", "elsewhere/b.i", "o/b.2.i", "o/b.i"])
+        self.assertEqual(found, ["a.i", "compile_commands.json", "d/b.c.i", "elsewhere/b.i", "o/b.2.i", "o/b.i"])
         self.assertEqual(self.text("t/a.i"), '# 1 "a.c"\n# 1 "%s/sys/sys.h" 1 3\nint sys;\n# 2 "a.c" 2\n1\n' % self.top)
         for name, begin in ("o/b", "d/b"), ("o/b.2", "./d/b"), ("elsewhere/b", self.top + "/d/b"):
             self.assertEqual(self.text("t/%s.i" % name), '# 1 "%s.c"\n# 1 "%s.h" 1\nb\n# 2 "%s.c" 2\n' % (begin, begin, begin))
@@ -456,8 +456,8 @@ class Texts(Builds):
         write(self.top, {"b.c": "#error no\n", "t/b.i": '# 1 "old"\n'})
         printed, messages = self.build("text", [("gcc -c b.c", "b.c"), "gcc -c a.c"], "--into", "t", status=1)
         self.assertEqual((printed, messages[0]), ("", "build.py: %s/b.c: fault 34, so there is no text (`build.py faults` says more)" % self.top))
-        self.assertRegex(messages[1], "^build.py: 2 units, 1 with a fault, ")
-        self.assertEqual((sorted(os.listdir(self.path("t"))), self.text("t/b.i")), (["a.i", "b.i"], '# 1 "old"\n'))
+        self.assertRegex(messages[2], "^build.py: 2 units, 1 with a fault, ")
+        self.assertEqual((sorted(os.listdir(self.path("t"))), self.text("t/b.i")), (["a.i", "b.i", "compile_commands.json"], '# 1 "old"\n'))
 
     def test_files_that_can_not_be_written(self):
         """Wants a line for each, and the other texts."""
@@ -469,7 +469,7 @@ class Texts(Builds):
         self.assertEqual(messages[0], "build.py: %s/c.c: t/c.i: Is a directory" % self.top)
         _, messages = self.build("text", [(["gcc", "-c", "b.c", "-o", "b\n.o"], "b.c")], "--into", "t", status=1)
         self.assertEqual(messages[0], "build.py: %s/b.c: the name t/b%%0A.i can't be that of a file" % self.top)
-        self.assertEqual(sorted(os.listdir(self.path("t"))), ["a.i", "b.i", "c.i"])
+        self.assertEqual(sorted(os.listdir(self.path("t"))), ["a.i", "b.i", "c.i", "compile_commands.json"])
 
     def test_names_that_can_not_be_shown(self):
         """Wants a line about each, and the name in the list in its place."""
