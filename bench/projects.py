@@ -11,8 +11,8 @@ used, and the name of the row says so.  A compiler that takes more than --second
 that it started.  A row has the number of units, of those that the compiler takes, and of these: how many are ok, have the
 compiler's tokens, and have its dependencies in its order.  bench/cutter.py makes spellings of the compiler's text.
 
-The comparison leaves out stdc-predef.h, which gcc includes by itself, #ident lines, pragmas that gcc executes and doesn't
-print, like #pragma once, and how __FILE__ spells a file's path.  Standard error names each unit that differs, with the
+The comparison leaves out stdc-predef.h, which gcc includes by itself, #ident lines, pragmas that gcc or clang executes and
+doesn't print, like #pragma once, and how __FILE__ spells a file's path.  Standard error names each unit that differs, with the
 first location where it does.
 
 Status: 0 all units that the compiler takes are the same, 1 some differ, 2 the command line is wrong, 3 build.py failed.
@@ -46,7 +46,8 @@ PRINTED = re.compile(rb"\np?tok [^ \n]+ [^ \n]+ [^ \n]+ ([^\n]*)")
 PRAGMA = re.compile(rb"\nprag [^\n]*(?:\nptok [^\n]*)*")
 PIECE = 16777216
 # lines that gcc executes and doesn't print, and lines that cppunits doesn't print
-UNPRINTED = re.compile(rb"# ?(?:ident|sccs|pragma +(?:once|push_macro|pop_macro|GCC +(?:poison|system_header|warning|error|dependency)))\b")
+UNPRINTED = re.compile(rb"# ?(?:ident|sccs|pragma +(?:once|push_macro|pop_macro|GCC +(?:poison|system_header|warning|error|dependency)"
+                       rb"|clang +(?:deprecated|restrict_expansion|final)))\b")
 ENVIRONMENT = dict(os.environ, SOURCE_DATE_EPOCH="1707465903", LC_ALL="C")
 HEAD = ["Project", "Units", "Taken by the compiler", "ok", "Same tokens", "Same dependencies", "Seconds: build.py dump",
         "Seconds: compiler -E -P", "The rest"]

@@ -223,9 +223,9 @@ def text(work):
         try:
             path = places.own(Result(command, [], [], None), unit.number, work.report)
             if unit.fault is None:
-                compilation = Compilation(command, b"".join(text_of(unit)))
+                compilation = Compilation(command, b"".join(text_of(unit)), work.compilers.is_clang(command))
                 write_text(compilation.text, path)
-                database.entries.append(compilation.entry(path, work.compilers.is_clang(command)))
+                database.entries.append(compilation.entry(path))
             else:
                 work.report.say("%s: fault %s, so there is no text (`build.py faults` says more)" % (command.file, unit.fault.split(" ")[0]))
         except NoEntry as reason:

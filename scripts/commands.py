@@ -8,6 +8,7 @@ from common import Refused, opened, read_json, say
 MAX_NAME = 1024
 PREDEFINED = {"__FILE__", "__LINE__", "__DATE__", "__TIME__", "__STDC__", "__STDC_HOSTED__", "__STDC_VERSION__"}
 NEVER = PREDEFINED | {"defined", "__VA_ARGS__"}
+DATES = {"__DATE__", "__TIME__"}
 
 FOLDERS = {"-I": "bracket", "-iquote": "quote", "-isystem": "system", "-idirafter": "after"}
 READ = (*FOLDERS, "-D", "-U", "-include", "-x", "-o", "-MF", "-MT", "-MQ")
@@ -160,7 +161,8 @@ class Command:
         word = re.split("[\r\n]", word, maxsplit=1)[0]
         name = defined_name(word)
         if name in NEVER:
-            self.report.add("%s: -D%s: this name may not be defined" % (self.file, word))
+            if not (word.partition("=")[0] in DATES and self.report.takes_date(word)):
+                self.report.add("%s: -D%s: this name may not be defined (fault 10)" % (self.file, word))
             return
         if not is_text(word):
             self.report.add("%s: -D%s: no UTF-8 text" % (self.file, word))
@@ -402,6 +404,10 @@ class Report:
         if line not in self.lines:
             self.lines.add(line)
             say(line)
+
+    def takes_date(self, word):
+        """Returns whether a command may define `__DATE__` or `__TIME__`, which are those of all units of a list."""
+        return False
 
     def left_out(self, path, reason):
         """Reports and counts a command that isn't part of the list."""

@@ -16,7 +16,7 @@ from lists import Additions
 NAME = re.compile(r"(?:\w[\w.]*-){0,5}(?:cc|gcc|clang)(?:-\d[\d.]*)?")
 PLACES = ("/usr/", "/opt/")
 SECONDS, MAX_ANSWER, AT_ONCE = 10, 16777216, 4
-OPERATORS = ("has_attribute", "has_builtin", "has_c_attribute", "has_cpp_attribute", "has_feature", "has_extension")
+OPERATORS = ("has_attribute", "has_builtin", "has_c_attribute", "has_cpp_attribute", "has_feature", "has_extension", "building_module")
 # names that a list may not define; the profile gnu allows `__STDC_VERSION__`
 KEPT = {"__FILE__", "__LINE__", "__DATE__", "__TIME__", "__STDC__", "defined", "__VA_ARGS__", "__VA_OPT__"}
 MACRO = re.compile(r"#define ([A-Za-z_$][\w$]*(?:\([^()]*\))?(?: .*)?)")
@@ -195,7 +195,14 @@ class CompilerAdditions(Additions):
         found = dict(answer.definitions() if answer else HAS_INCLUDE)
         for name in self.left_out:
             found.pop(name, None)
-        return {**found, **self.texts}
+        base = base_file(command)
+        return {**found, **({"__BASE_FILE__": base} if answer and base else {}), **self.texts}
+
+
+def base_file(command):
+    """Returns the definition of the unit's own file as compilers show it, or None if a list can't have it."""
+    name = command.spelled[command.file]
+    return '__BASE_FILE__ "%s"' % re.sub(r'(["\\])', r"\\\1", name) if is_text(name) and name.isprintable() else None
 
 
 def answer_of(program, options, limit):

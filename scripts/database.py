@@ -5,7 +5,7 @@ import os
 from commands import at
 from common import Refused, compact, opened, written
 from fallthrough import with_comments
-from parsed import Parsed, stray
+from parsed import Parsed, for_clang, stray
 
 NAME = "compile_commands.json"
 # what a command without -o writes, by its last step
@@ -46,13 +46,14 @@ def triples(words):
 
 
 class Compilation:
-    """Is a unit's command with its text in place of the source.  The text has the comments that the compiler looks for."""
+    """Is a unit's command with its text in place of the source.  The text is as its compiler wants it."""
 
-    def __init__(self, command, text):
-        self.command, self.asked = command, Parsed(command.words, command.directory)
+    def __init__(self, command, text, clang):
+        self.command, self.asked, self.clang = command, Parsed(command.words, command.directory), clang
+        text = for_clang(text) if clang else text
         self.text = with_comments(text, command.directory) if self.asked.wants_comments() else text
 
-    def entry(self, path, clang):
+    def entry(self, path):
         """Returns the entry for the text, which is the file of this path."""
         asked, command, source = self.asked, self.command, self.source()
         if reason := stray(self.text) or asked.renamed(self.text):
@@ -61,7 +62,7 @@ class Compilation:
         if asked.output is None and asked.step in ENDS:
             # the text may have another name
             asked.output = os.path.splitext(os.path.basename(source.name))[0] + ENDS[asked.step]
-        found = {"directory": command.directory, "arguments": [*command.before, *asked.second(clang)], "file": source.text}
+        found = {"directory": command.directory, "arguments": [*command.before, *asked.second(self.clang)], "file": source.text}
         output = asked.output or command.output
         return {**found, "output": output} if output else found
 

@@ -250,8 +250,10 @@ class Front:
 
     def place_of_rule(self, unit):
         """Returns the name of a unit's dependency file."""
-        named = unit.command.wanted.file
-        stem = self.asked.output if self.asked.output not in (None, "-") else os.path.basename(unit.source.name)
+        named, stem = unit.command.wanted.file, self.asked.output
+        if stem in (None, "-"):
+            # gcc names it for the program a.out
+            stem = ("a-" if self.asked.step in ("link", "-fsyntax-only") and unit.is_after_gcc_11() else "") + os.path.basename(unit.source.name)
         return named or os.path.splitext(stem)[0] + ".d"
 
     def rule(self, unit):

@@ -12,7 +12,7 @@ from compilers import OPERATORS, Answer, Compilers
 from files import TIE, Files, content, seen_in
 
 # changes with the form of what is kept
-FORM = "1"
+FORM = "2"
 # variables that change the directories of a compiler
 VARIABLES = ("CPATH", "C_INCLUDE_PATH", "COMPILER_PATH", "GCC_EXEC_PREFIX", "SDKROOT")
 

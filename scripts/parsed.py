@@ -22,6 +22,8 @@ SUFFIXES = {".c": "c", ".h": "c-header", ".i": "cpp-output", ".s": "assembler", 
 # inputs in these languages aren't preprocessed
 FINISHED = {"cpp-output", "c++-cpp-output", "assembler", "ir", "object"}
 STRAY = re.compile(rb"^ +(#|%:)", re.MULTILINE)
+# clang's preprocessor executes these; in a text clang refuses them, since their macros aren't defined there
+OF_MACROS = re.compile(rb"^#pragma +clang +(?:deprecated|restrict_expansion|final)\b[^\n]*", re.MULTILINE)
 # gcc and clang hold these warnings back where a macro's tokens cause them, which text doesn't say
 IN_MACROS = ("address", "tautological-compare", "int-in-bool-context", "logical-not-parentheses", "misleading-indentation")
 IN_MACROS_OF_CLANG = ("parentheses-equality", "tautological-compare", "constant-logical-operand", "self-assign", "unused-value")
@@ -143,6 +145,11 @@ def stray(text):
     """Returns what is wrong with a text that a compiler would read in another way, or None; no C program has such a token."""
     found = STRAY.search(text)
     return found and "stray '%s' in program" % found[1].decode()
+
+
+def for_clang(text):
+    """Returns a text without the pragmas that clang's own text doesn't have."""
+    return OF_MACROS.sub(b"", text) if b" clang " in text else text
 
 
 def is_unknown(word):

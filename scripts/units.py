@@ -10,10 +10,14 @@ from compilers import CompilerAdditions
 from files import PASSED, TRIGRAPH, content, uncommented
 from front import MARKER, is_special, paths_of, run
 from kept import VARIABLES, Cache, KeptCompilers, KeptFiles, cache_folder
-from lists import Builder, bytes_of, list_of
+from lists import MONTHS, Builder, bytes_of, list_of
+from parsed import for_clang
 from runs import MAX_ROUNDS, STATUSES, MissingFiles
 
 FACTS = types.SimpleNamespace(inline=False, shown=True, budget=None, date=None, time=None, root="/", profile="gnu", system=(), define=())
+# the names of date and time: the list's member, what a list may have, and what no unit is to have
+DATES = {"__DATE__": ("date", '"((?:%s) (?: [1-9]|[12][0-9]|3[01]) [0-9]{4})"' % "|".join(MONTHS), "Dec 31 9999"),
+         "__TIME__": ("time", '"((?:[01][0-9]|2[0-3]):[0-5][0-9]:[0-5][0-9])"', "23:59:60")}
 # variables that have directories for headers
 PATHS = VARIABLES[:2]
 HOSTED = b"__STDC_HOSTED__"
@@ -31,11 +35,17 @@ class Notes:
     """Holds what a list can't express.  What is said of a file counts only if the unit opens that file."""
 
     def __init__(self):
-        self.lines, self.files = [], []
+        # `dates` has definitions of `__DATE__` and `__TIME__`: the words of their options, by name
+        self.lines, self.files, self.dates = [], [], {}
 
     def add(self, line):
         if "__STDC_HOSTED__ is 0" not in line:
             self.lines.append(line)
+
+    def takes_date(self, word):
+        """Takes a definition of `__DATE__` or `__TIME__`: the list has one unit."""
+        self.dates[word.partition("=")[0]] = word
+        return True
 
     def same(self, asked, taken):
         """Notes a path where removing `..` by name gives another file than the disk does."""
@@ -75,10 +85,18 @@ class Unit:
         lines = ['#include "..." search starts here:', *folders[:quotes], "#include <...> search starts here:", *folders[quotes:], "End of search list."]
         print("\n".join(lines), file=sys.stderr, flush=True)
 
+    @property
+    def answer(self):
+        return self.builder.additions.compilers.answer(self.command)
+
     def has_first(self):
         """Returns whether the compiler itself reads stdc-predef.h first, whose macros are among its own."""
-        answer = self.builder.additions.compilers.answer(self.command)
-        return answer.hosted and "__clang__" not in answer.macros
+        return self.answer.hosted and "__clang__" not in self.answer.macros
+
+    def is_after_gcc_11(self):
+        """Returns whether the compiler is gcc 11 or a later one."""
+        macros = self.answer.macros
+        return "__clang__" not in macros and int(macros.get("__GNUC__", "x 0").split()[-1]) >= 11
 
 
 class Maker:
@@ -121,9 +139,9 @@ class Maker:
         if unit.fault is not None:
             number = unit.fault.split(" ")[0]
             raise Stopped("%s: fault %s of cppunits" % (source.name, number), lambda: self.tell(listed, unit))
-        if reason := self.front.asked.renamed(unit.text):
+        if reason := self.front.asked.renamed(unit.text) or dated(notes.dates, unit.text):
             raise Stopped("%s: error: %s" % (source.name, reason))
-        return Unit(source, command, unit.text, builder)
+        return Unit(source, command, for_clang(unit.text) if self.front.real.is_clang() else unit.text, builder)
 
     def command(self, source, notes):
         """Returns the command of an input, and a builder for its list."""
@@ -140,10 +158,6 @@ class Maker:
             # names in quotes are looked for here
             command.folders["quote"].insert(0, front.cwd)
             command.spelled.setdefault(front.cwd, ".")
-        shown = command.spelled[path].replace("\\", "\\\\").replace('"', '\\"')
-        command.definitions.setdefault("__BASE_FILE__", '__BASE_FILE__ "%s"' % shown)
-        if self.front.real.is_clang():
-            command.definitions.setdefault("__building_module", "__building_module(x) 0")
         builder = Builder(FACTS, notes, CompilerAdditions(self.compilers, FACTS), True)
         builder.files = self.files
         self.files.report = notes
@@ -159,7 +173,7 @@ class Maker:
             rows, pairs = builder.build([command])
             if not pairs:
                 raise Refused("; ".join(builder.report.lines) or "%s: no list can have this unit" % command.file)
-            listed = list_of(FACTS, rows, pairs)
+            listed = list_of(facts_of(builder.report.dates), rows, pairs)
             unit = self.output("text", listed)
             if command not in builder.computing:
                 break
@@ -207,6 +221,28 @@ class Maker:
                 yield "%s: tests __STDC_HOSTED__, which is 0 under the command's options, and 1 for cppunits" % path
             if command.trigraphs and TRIGRAPH.search(data) and TRIGRAPH.search(PASSED.sub(uncommented, data)):
                 yield "%s: has a trigraph, which the compiler replaces, and cppunits doesn't under gnu" % path
+
+
+def value_of(name, word):
+    """Returns the date or time of an option that defines it, if a list can have it; otherwise None."""
+    found = re.fullmatch(DATES[name][1], word.partition("=")[2])
+    return found and found[1]
+
+
+def facts_of(dates):
+    """Returns what a list has beside files and units.  A date or time that a list can't have becomes one that no unit is to have."""
+    facts = types.SimpleNamespace(**vars(FACTS))
+    for name, word in dates.items():
+        setattr(facts, DATES[name][0], value_of(name, word) or DATES[name][2])
+    return facts
+
+
+def dated(dates, text):
+    """Returns what is wrong with a text that has the value of a date or time which a list can't have, or None."""
+    for name, word in dates.items():
+        if value_of(name, word) is None and DATES[name][2].encode() in text:
+            return "-D%s: a list can't have this %s, which the unit uses [fault 10]" % (word, DATES[name][0])
+    return None
 
 
 def parts(output):

@@ -97,6 +97,7 @@ if has python3 "the tests of the scripts and documents"; then
     begin python3 tests/phase_tests.py
     begin python3 tests/list_tests.py
     begin python3 tests/build_tests.py
+    begin python3 tests/headers_tests.py
     begin python3 tests/database_tests.py
     begin python3 tests/front_tests.py
     begin python3 tests/deps_tests.py

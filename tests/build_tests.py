@@ -100,6 +100,16 @@ class Compilers(Builds):
         self.assertRegex(messages[0], r"^build.py: 1 units, 0 with a fault, 2 files \(2 on the list\), [0-9.]+ seconds$")
         self.assertEqual(len(messages), 1)
 
+    def test_the_units_own_file_and_the_module_that_is_built(self):
+        """Wants `__BASE_FILE__` as the command spells it, and 0 of a compiler that has `__building_module`, as clang's headers ask."""
+        self.compiler("bin/gcc", COMPILER.replace("sed -n '", "sed -n 's/^#ifdef __building_module$/@ building_module :/p; s/^#if __building_module(one)$/@ building_module one : 1/p; "))
+        write(self.top, {"a.c": "__BASE_FILE__\n#if defined(__building_module) && !__building_module(_Builtin_x) && __building_module(one)\nyes\n#endif\n"})
+        self.assertEqual(self.tokens(["gcc -c ./a.c", "gcc -U__BASE_FILE__ -D__building_module=1 -c a.c"], status=1)[0],
+                         [['"./a.c"', "yes"], ["__BASE_FILE__"]])
+        self.compiler("bin/gcc")
+        write(self.top, {"a.c": "#ifdef __building_module\nyes\n#endif\n__BASE_FILE__\n"})
+        self.assertEqual(self.tokens(["gcc -c a.c"])[0], [['"a.c"']])
+
     def test_profiles(self):
         """Wants no operators and no `__STDC_VERSION__` of the compiler in a profile that doesn't allow them."""
         self.compiler("bin/gcc")

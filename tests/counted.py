@@ -17,8 +17,8 @@ HERE = os.path.dirname(os.path.abspath(__file__))
 TOP = os.path.dirname(HERE)
 BUILT = os.path.join(TOP, "crates", "cppunits", "out", "cppunits")
 with open(os.path.join(HERE, "packages.txt")) as lines:
-    # a program that tests use, and its Debian package
-    PACKAGES = dict(line.split() for line in lines)
+    # a program that tests use, and its Debian packages
+    PACKAGES = dict(line.strip().split(" ", 1) for line in lines)
 LIST = {"date": "Feb  9 2024", "time": "08:05:03"}
 PRINTED = re.compile(rb"%([0-9A-F]{2})")
 

@@ -25,7 +25,9 @@ int low(int);
 int main(void) { SHOW(low(N) + OWN + API); return __LINE__ - 10; }
 """
 FILES = {"src/main.c": MAIN, "src/own.h": "#define OWN 1\n", "inc/api.h": "#define API 2\n", "src/low.c": "int low(int n) { return n + 30; }\n",
-         "first.h": "#define N 9\n", "words": "-Iinc -DN=4\n", "src/text": MAIN}
+         "first.h": "#define N 9\n", "words": "-Iinc -DN=4\n", "src/text": MAIN,
+         "src/date.c": "char *date = __DATE__ __TIME__;\n",
+         "src/atomic.c": "#include <stdatomic.h>\nint n;\n#pragma clang final(ATOMIC_INT_LOCK_FREE)\n_Pragma(\"clang deprecated(ATOMIC_INT_LOCK_FREE)\") char *s = __BASE_FILE__;\n"}
 
 
 def read(*parts):
@@ -109,7 +111,9 @@ class Options(Fronts):
         "-Iinc -include src/own.h -D'N=(1 + 2)' -c src/main.c", "@words -c src/main.c", "-Isrc -Iinc -x c -c src/text -x none", "-Iinc -Isrc -c -xc src/text",
         "-Iinc -std=c99 -pedantic -c src/main.c", "--include-directory=inc -c src/main.c", "-Iinc -fsyntax-only src/main.c", "-Iinc -Wp,-DN=5 -c src/main.c",
         "-Iinc -O2 -D_FORTIFY_SOURCE=2 -fPIC -c src/main.c", "-Iinc -ffunction-sections -Wl,--gc-sections src/main.c src/low.c",
-        "-I/none -Iinc -P -c src/main.c", "-Iinc -ffile-prefix-map=/src=x -fdebug-prefix-map=src=x -c src/main.c"]
+        "-I/none -Iinc -P -c src/main.c", "-Iinc -ffile-prefix-map=/src=x -fdebug-prefix-map=src=x -c src/main.c",
+        "-c src/atomic.c", "-std=c11 -O2 -c src/atomic.c", "-Wno-builtin-macro-redefined -D__DATE__='\"Jan  2 2030\"' -D__TIME__='\"03:04:05\"' -c src/date.c",
+        "-w -D__DATE__='\"redacted\"' -D__TIMESTAMP__='\"redacted\"' -D__TIME__= -Iinc -c src/main.c"]
 
     def test_the_same_files(self):
         for command in self.COMMANDS:
@@ -174,7 +178,8 @@ class Dependencies(Fronts):
         "-MD -c src/main.c", "-MMD -c src/main.c -o x.o", "-MMD src/main.c src/low.c -o prog", "-MMD -S src/main.c",
         "-MD -MF f.d -c src/main.c", "-MMD -MP -MFf.d -c src/main.c", "-MMD -MT t$x -MQ q$x -c src/main.c", "-c -Wp,-MD,f.d src/main.c",
         "-c -Wp,-MMD,f.d -MT t src/main.c", "-MM src/main.c -MF f.d", "-M src/main.c -o f.d",
-        "-MMD -include first.h -c src/main.c", "-MM src/main.c src/low.c -MF f.d"]
+        "-MMD -include first.h -c src/main.c", "-MM src/main.c src/low.c -MF f.d", "-MD src/main.c src/low.c", "-MMD -MT t src/main.c src/low.c",
+        "-MMD -fsyntax-only src/main.c"]
 
     def test_the_same_rules(self):
         for command in self.COMMANDS:
@@ -202,7 +207,11 @@ REFUSED = {
     "-Xpreprocessor -P -c src/low.c": "-Xpreprocessor isn't supported",
     "-MM -MG src/low.c": "-MG isn't supported",
     "-specs=none -c src/low.c": "-specs=none isn't supported",
-    "-D__FILE__=1 -c src/low.c": "-D__FILE__=1: this name may not be defined",
+    "-D__FILE__=1 -c src/low.c": "-D__FILE__=1: this name may not be defined (fault 10)",
+    "-D__DATE__=\"redacted\" -c src/date.c": "src/date.c: error: -D__DATE__=\"redacted\": a list can't have this date, which the unit uses [fault 10]",
+    "-D__DATE__=\"Feb\u00a030\u00a02024\" -D__TIME__ -c src/date.c": "src/date.c: error: -D__DATE__=",
+    "-D__TIME__=\"24:00:00\" -c src/date.c": "src/date.c: error: -D__TIME__=\"24:00:00\": a list can't have this time",
+    "-U__DATE__ -c src/low.c": "-U__DATE__: this name stays defined",
     "-include no.h -c src/low.c": "-include no.h: there is no such file",
     "-std=c11 -c tri.c": "tri.c: error: has a trigraph",
     "-ffreestanding -c host.c": "host.c: error: tests __STDC_HOSTED__",
@@ -215,6 +224,10 @@ REFUSED = {
     "-c no.c": "no.c: No such file or directory",
     "-c @no": "there is no response file ",
 }
+
+
+class DependenciesOfClang(Dependencies):
+    compiler = "clang"
 
 
 class Faults(Fronts):
