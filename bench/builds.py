@@ -46,18 +46,44 @@ TMUX_TEST = """t() { ./tmux -L builds -f /dev/null "$@"; }
 t new-session -d -x 80 -y 24 'cat' && t send-keys 'by cppunits' Enter && sleep 1 && t capture-pane -p | sed -n 's/^by cppunits/passed/p'
 t list-commands | sed 's/^/passed /'; t show-options -g | sed 's/^/passed /'
 t split-window -h cat && t list-panes | sed 's/^/passed /'; t kill-server"""
+KERNEL = "make -j$JOBS ARCH=x86_64 CC=cppunits-cc HOSTCC=gcc KBUILD_BUILD_TIMESTAMP=2024-02-09 KBUILD_BUILD_USER=u KBUILD_BUILD_HOST=h"
+BOOT = """gcc -static -O2 $BENCH/linux/init.c -o init && echo init | cpio -o -H newc > initramfs && timeout 300 qemu-system-x86_64 -m 256 -display none \
+-monitor none -serial stdio -no-reboot -kernel arch/x86/boot/bzImage -initrd initramfs -append 'console=ttyS0 panic=-1'"""
 PROJECTS = [
     Project("lua", "lua5.4", "for n in 0002-lua-modules-paths 0001-build-system; do patch -R -p1 < debian/patches/$n.patch; done", "make -C src -j$JOBS CC='cppunits-cc -std=gnu99' linux-readline",
             "src/lua -e %s" % shlex.quote(LUA_TEST), "^passed ", "a script, since the source has no tests; two patches are left out"),
     Project("zlib", "zlib", "./configure", "make -j$JOBS", "make test", r"zlib .*test OK"),
     Project("bzip2", "bzip2", "true", "make -j$JOBS CC=cppunits-cc CFLAGS='-Wall -Winline -O2 -D_FILE_OFFSET_BITS=64'",
             "make check | tee /dev/stderr && for n in 1 2 3; do ./bzip2 -dc sample$n.bz2 | cmp - sample$n.ref && echo passed; done", "^passed"),
+    Project("cJSON", "cjson", "cmake -B b -DENABLE_CJSON_UTILS=ON", "make -C b -j$JOBS", "cd b && ctest", r"^ *\d+/\d+ Test .* Passed "),
+    Project("libpng", "libpng1.6", "./configure CFLAGS=-O2", "make -j$JOBS && make -j$JOBS check TESTS=", "make check", r"^# PASS: +(\d+)$"),
+    Project("jq", "jq", "autoreconf -fi && ./configure CFLAGS=-O2 --disable-docs --disable-valgrind", "make -j$JOBS", "make check; cat tests/*.log",
+            r"^(\d+) of \d+ tests passed"),
+    Project("tmux", "tmux", "./configure CFLAGS=-O2", "make -j$JOBS", TMUX_TEST, "^passed", "a script, since the source has no tests"),
+    Project("libevent", "libevent", "autoreconf -fi && ./configure CFLAGS=-O2", "make -j$JOBS", "test/regress main/.. util/.. evbuffer/.. bufferevent/.. http/..", r"\bOK$",
+            "tests: the groups main, util, evbuffer, bufferevent and http of `regress`"),
+    Project("zstd", "libzstd", "true", "make -j$JOBS lib zstd CFLAGS=-O2 && make -C tests -j$JOBS datagen poolTests invalidDictionaries legacy CFLAGS=-O2",
+            "cd tests && ./poolTests; ./invalidDictionaries && echo PASS; ./legacy; ./cli-tests/run.py --zstd=../programs/zstd --datagen=./datagen", "PASS",
+            "tests: `poolTests`, `invalidDictionaries`, `legacy` and `cli-tests`"),
+    Project("redis", "redis", "true", "make -j$JOBS CC=cppunits-cc MALLOC=libc OPTIMIZATION=-O2 DEBUG= DEBUG_FLAGS=",
+            "./runtest --clients 1 --single unit/type/string --single unit/type/hash --single unit/type/incr --single unit/keyspace --single unit/scan "
+            "--single unit/scripting", r"^\[.*ok.*\]: ", "tests: six of the files of `runtest`"),
+    Project("sqlite", "sqlite3", "./configure --disable-amalgamation --disable-shared CFLAGS=-O1", "make -j$JOBS sqlite3 testfixture",
+            "for t in select1 select3 expr func join where like date insert trigger1 pragma; do ./testfixture test/$t.test; done",
+            r"^0 errors out of (\d+) tests", "`-O1`; tests: eleven of the files of `testfixture`"),
+    Project("curl", "curl", "autoreconf -fi && ./configure --with-openssl --disable-shared CFLAGS=-O2", "make -j$JOBS && make -C tests/server -j$JOBS",
+            "cd tests && ./runtests.pl -a -n 1 to 200", r"^TESTDONE: (\d+) tests out of", "tests: 1 to 200"),
+    Project("git", "git", "true", "make -j$JOBS CC=cppunits-cc CFLAGS='-O2 -Wall' NO_GETTEXT=1 NO_PERL=1 NO_PYTHON=1 NO_TCLTK=1",
+            "cd t && for t in t00[0-6]*.sh; do ./$t; done", "^ok [0-9]+ - ", "tests: `t00[0-6]*.sh`"),
+    Project("linux", "linux", "%s tinyconfig && scripts/kconfig/merge_config.sh -m .config $BENCH/linux/fragment.config && %s olddefconfig" % (KERNEL, KERNEL),
+            KERNEL + " bzImage", BOOT, r"^init runs under Linux", "tinyconfig and bench/linux/fragment.config, booted in QEMU; programs of the host by gcc"),
 ]
 SCRIPT = """#!/bin/sh
 printf '%%s\\0' "$#" "$PWD" "$@" >> %s/$$
 exec %s "$@"
 """
 WARNING = re.compile(r"^([^\s:][^:\n]*):(\d+):(?:\d+:)? warning: .*?(?: \[(-W[^\]\n]+)\])?$", re.MULTILINE)
+SHOWN = 20
 # the type of an ELF file (x86-64)
 RELOCATABLE = b"\1\0"
 CHANGELOG = re.compile(r"\S+ \(([^)]+)\)")
@@ -155,12 +181,14 @@ def processor_seconds():
 
 
 class Build:
-    """Is a build of a project, directly or by the front: what its compilers were given, its warnings, passed tests and seconds."""
+    """Is a build of a project, directly or by the front: what its compilers were given, its warnings, passed tests and seconds.
+
+    `units` has the C files that cppunits-cc was given, `past` those that gcc was given by its own name, and `made` the objects of these."""
 
     def __init__(self, project, place, way, asked):
         self.project, self.way, self.seconds, self.asked = project, way, 0.0, asked
         self.place, self.tree, self.logs = place, os.path.join(place, "tree"), os.path.join(place, way)
-        self.units, self.past, self.warnings, self.passed = 0, [], set(), 0
+        self.units, self.past, self.made, self.warnings, self.passed = [], [], set(), set(), 0
 
     def run(self, source):
         """Configures, builds and tests a fresh copy of the source."""
@@ -175,6 +203,7 @@ class Build:
         self.seconds = processor_seconds() - began
         self.warnings = warnings(self.said("build"))
         self.units, self.past = self.compiled("front"), self.compiled("past")
+        self.made = {os.path.relpath(path, self.tree) for path in self.given("past", outputs)}
         self.step("tests", self.asked.seconds)
         self.passed = passed(self.project.passed, self.said("tests"))
 
@@ -222,11 +251,15 @@ class Build:
 
     def compiled(self, log):
         """Returns the C files that were given to compilers."""
-        found = []
+        return sorted(self.given(log, sources))
+
+    def given(self, log, names):
+        """Yields the names that a function finds in the commands of compilers."""
         for path in glob.glob(os.path.join(self.logs, log, "*")):
             with open(path, "rb") as file:
-                found += [name for words in recorded(file.read()) for name in sources(*words)]
-        return sorted(found)
+                data = file.read()
+            for folder, words in recorded(data):
+                yield from (os.path.normpath(os.path.join(folder, name)) for name in names(folder, words))
 
 
 def recorded(data):
@@ -247,7 +280,15 @@ def sources(folder, words):
         return []
     if asked.question or asked.rules or asked.step in ("-E", "-fsyntax-only"):
         return []
-    return [os.path.normpath(os.path.join(folder, one.name)) for one in asked.sources() if one.name not in ("-", "/dev/null")]
+    return [one.name for one in asked.sources() if one.name not in ("-", "/dev/null")]
+
+
+def outputs(folder, words):
+    """Returns the objects that a command makes of C files."""
+    names, asked = sources(folder, words), Parsed(words, folder)
+    if asked.step != "-c":
+        return []
+    return [asked.output] if asked.output else [os.path.splitext(os.path.basename(name))[0] + ".o" for name in names]
 
 
 def warnings(text):
@@ -277,9 +318,9 @@ def is_object(path):
     return head[:4] == b"\x7fELF" and head[16:] == RELOCATABLE
 
 
-def unequal(one, other):
-    """Returns the objects of two trees, and those of them that only one has or that differ in a byte."""
-    mine, others = objects(one), objects(other)
+def unequal(one, other, left_out):
+    """Returns the objects of two trees but for some, and those of them that only one has or that differ in a byte."""
+    mine, others = objects(one) - left_out, objects(other) - left_out
     found = mine ^ others
     found |= {name for name in mine & others if not filecmp.cmp(os.path.join(one, name), os.path.join(other, name), shallow=False)}
     return sorted(mine | others), sorted(found)
@@ -293,7 +334,7 @@ class Row:
 
     def __init__(self, version, direct, front, trees):
         self.project, self.version, self.direct, self.front = direct.project, version, direct, front
-        self.objects, self.unequal = unequal(*trees)
+        self.objects, self.unequal = unequal(*trees, direct.made | front.made)
 
     def same(self):
         return not self.unequal and self.direct.warnings == self.front.warnings and self.direct.passed == self.front.passed
@@ -306,13 +347,20 @@ class Row:
 
     def differences(self):
         """Yields a line for each thing that differs, and for the C files that went past the front."""
-        yield from ("object %s" % name for name in self.unequal)
+        yield from some("unequal object", self.unequal)
         for way, more in ("gcc", self.direct.warnings - self.front.warnings), ("cppunits-cc", self.front.warnings - self.direct.warnings):
-            yield from ("a warning of %s only: %s:%d %s" % (way, *one) for one in sorted(more))
+            yield from some("warning of %s only" % way, ["%s:%d %s" % one for one in sorted(more)])
         if self.direct.units != self.front.units:
             yield "%d C files went to cppunits-cc, and %d in the direct build" % (len(self.front.units), len(self.direct.units))
         if self.front.past:
-            yield "%d C files went past cppunits-cc: %s" % (len(self.front.past), " ".join(map(os.path.basename, self.front.past))[:200])
+            yield from some("C file past cppunits-cc", self.front.past)
+
+
+def some(kind, names):
+    """Yields a line for each of the first names of a kind, and one for the number of all."""
+    yield from ("%s: %s" % (kind, name) for name in names[:SHOWN])
+    if len(names) > SHOWN:
+        yield "%s: %d in all" % (kind, len(names))
 
 
 def table(rows):

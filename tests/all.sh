@@ -105,6 +105,7 @@ if has python3 "the tests of the scripts and documents"; then
     begin python3 tests/faults_tests.py
     begin python3 tests/slurm_tests.py
     begin python3 tests/projects_tests.py
+    begin python3 tests/builds_tests.py
     begin python3 tests/docs_examples.py
     begin python3 tests/docs_specification.py
     begin python3 tests/house_tests.py
