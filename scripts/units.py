@@ -21,6 +21,8 @@ DATES = {"__DATE__": ("date", '"((?:%s) (?: [1-9]|[12][0-9]|3[01]) [0-9]{4})"' %
 # variables that have directories for headers
 PATHS = VARIABLES[:2]
 HOSTED = b"__STDC_HOSTED__"
+# a directory before each name, which says where a text has names of files; and names that no literal escapes
+TAG, PLAIN = b"@cppunits@/", re.compile(rb"[ !#-\[\]-~]*")
 
 
 class Stopped(Exception):
@@ -139,9 +141,24 @@ class Maker:
         if unit.fault is not None:
             number = unit.fault.split(" ")[0]
             raise Stopped("%s: fault %s of cppunits" % (source.name, number), lambda: self.tell(listed, unit))
-        if reason := self.front.asked.renamed(unit.text) or dated(notes.dates, unit.text):
+        if reason := dated(notes.dates, unit.text):
             raise Stopped("%s: error: %s" % (source.name, reason))
-        return Unit(source, command, for_clang(unit.text) if self.front.real.is_clang() else unit.text, builder)
+        text = self.mapped(source.name, listed, unit.text)
+        return Unit(source, command, for_clang(text) if self.front.real.is_clang() else text, builder)
+
+    def mapped(self, name, listed, text):
+        """Returns a text in which `__FILE__` is as -fmacro-prefix-map and -ffile-prefix-map want it.  Where it is, a second text says."""
+        maps = prefix_maps(self.front.asked.words)
+        if not any(re.search(b'^(?!# ).*"' + re.escape(in_literal(old)), text, re.MULTILINE) for _, old, _ in maps):
+            return text
+        option = maps[0][0]
+        if not self.front.real.is_clang() and TAG not in text and all(PLAIN.fullmatch(word) for pair in maps for word in pair[1:]):
+            marked = self.output("text", tagged(listed)).text
+            lines = [marker[1] for marker in MARKER.finditer(marked) if not marker[1].startswith(TAG)]
+            # a name of #line has no tag, and is mapped too
+            if marked.replace(TAG, b"") == text and not any(line.startswith(old) for line in lines for _, old, _ in maps):
+                return untagged(marked, {old: new for _, old, new in maps})
+        raise Stopped("%s: error: %s isn't supported for its __FILE__" % (name, option))
 
     def command(self, source, notes):
         """Returns the command of an input, and a builder for its list."""
@@ -243,6 +260,42 @@ def dated(dates, text):
         if value_of(name, word) is None and DATES[name][2].encode() in text:
             return "-D%s: a list can't have this %s, which the unit uses [fault 10]" % (word, DATES[name][0])
     return None
+
+
+def prefix_maps(words):
+    """Returns the options that change `__FILE__`, each with the beginnings of names that it replaces and puts there, the one that counts first."""
+    found = []
+    for option, sign, value in (word.partition("=") for word in words):
+        if sign and option in ("-fmacro-prefix-map", "-ffile-prefix-map"):
+            old, _, new = os.fsencode(value).rpartition(b"=")
+            found.insert(0, (option, old, new))
+    return found
+
+
+def in_literal(name):
+    """Returns a name as a string literal has it."""
+    return name.replace(b"\\", b"\\\\").replace(b'"', b'\\"')
+
+
+def tagged(listed):
+    """Returns the list of a unit with a tag at the beginning of each shown name."""
+    tag, unit = TAG.decode(), listed["units"][0]
+
+    def named(rows):
+        rows = [{"name": row} if isinstance(row, str) else row for row in rows]
+        return [dict(row, shown=tag + row.get("shown", "" if row["name"] == "." else row["name"])) for row in rows]
+
+    base = '__BASE_FILE__ "'
+    more = {"shown": tag + unit.get("shown", unit["file"]), "define": [text.replace(base, base + tag, 1) for text in unit.get("define", [])]}
+    more.update({name: named(unit[name]) for name in ("first", "search") if name in unit})
+    return dict(listed, search=named(listed["search"]), units=[dict(unit, **more)])
+
+
+def untagged(text, maps):
+    """Returns a text without tags; in names that aren't in markers the beginning is replaced."""
+    text = re.sub(rb'^(# \d+ ")' + TAG, rb"\1", text, flags=re.MULTILINE)
+    olds = b"|".join(map(re.escape, maps))
+    return re.sub(TAG + b"(" + olds + b"|)", lambda found: maps.get(found[1], b""), text)
 
 
 def parts(output):

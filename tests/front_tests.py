@@ -24,7 +24,15 @@ MAIN = r"""#include "own.h"
 int low(int);
 int main(void) { SHOW(low(N) + OWN + API); return __LINE__ - 10; }
 """
+NAMED = """#include "names.h"
+#include <name.h>
+#define STRING(x) #x
+#define SPELLED(x) STRING(x)
+char **all = names, *spelled = SPELLED(__FILE__ "a") __FILE__, *where = __FILE__ "@"; int size = sizeof __FILE__; int line(void) { return __LINE__; }
+"""
 FILES = {"src/main.c": MAIN, "src/own.h": "#define OWN 1\n", "inc/api.h": "#define API 2\n", "src/low.c": "int low(int n) { return n + 30; }\n",
+         "src/named.c": NAMED, "src/names.h": 'static char *names[] = { __FILE__, __BASE_FILE__, "./src/x" };\n',
+         "inc/name.h": "#include \"../more/last.h\"\nchar *name = __FILE__;\n", "more/last.h": "char *last = __FILE__;\n",
          "first.h": "#define N 9\n", "words": "-Iinc -DN=4\n", "src/text": MAIN,
          "src/date.c": "char *date = __DATE__ __TIME__;\n",
          "src/atomic.c": "#include <stdatomic.h>\nint n;\n#pragma clang final(ATOMIC_INT_LOCK_FREE)\n_Pragma(\"clang deprecated(ATOMIC_INT_LOCK_FREE)\") char *s = __BASE_FILE__;\n"}
@@ -160,6 +168,16 @@ class Options(Fronts):
         well([self.compiler, "-Iinc", "-c", "m.c", "-o", "theirs.o"], cwd=self.work)
         self.assertEqual(read(self.work, "ours.o"), read(self.work, "theirs.o"))
 
+    def test_names_that_options_map(self):
+        if self.compiler != "gcc":
+            self.assertIn("-fmacro-prefix-map isn't supported for its __FILE__", self.refused("-Iinc", "-fmacro-prefix-map=src=x", "-c", "src/named.c"))
+            return
+        for words in ("-fmacro-prefix-map=./=", "-ffile-prefix-map=./src=n", "-fmacro-prefix-map=./s=q/ -fmacro-prefix-map=./=r/", "-fmacro-prefix-map=./=a",
+                      "-fmacro-prefix-map=./src/own.h=", "-fmacro-prefix-map=%s=/w" % self.work, "-fmacro-prefix-map==/", "-fmacro-prefix-map=none=x"):
+            self.made(*words.split(), "-I./inc", "-I" + self.path("w/more"), "-c", "./src/named.c", "-o", "ours.o")
+            well([self.compiler, *words.split(), "-I./inc", "-I" + self.path("w/more"), "-c", "./src/named.c", "-o", "theirs.o"], cwd=self.work)
+            self.assertEqual(read(self.work, "ours.o"), read(self.work, "theirs.o"), words)
+
     def test_comments_and_macros_that_silence_warnings(self):
         write(self.work, {"f.c": "int f(int n)\n{\n    switch (n) {\n    case 1: n++;\n        /* fall through */\n    case 2: n++; // FALLTHRU\n"
                                  "    default: n++;\n    }\n    return n;\n}\n",
@@ -216,7 +234,8 @@ REFUSED = {
     "-std=c11 -c tri.c": "tri.c: error: has a trigraph",
     "-ffreestanding -c host.c": "host.c: error: tests __STDC_HOSTED__",
     "-iquote src -c shadow.c": "<own.h> is found in an -iquote directory",
-    "-ffile-prefix-map=fi=x -c file.c": "file.c: error: -ffile-prefix-map isn't supported for its __FILE__",
+    "-ffile-prefix-map=fi=x -c line.c": "line.c: error: -ffile-prefix-map isn't supported for its __FILE__",
+    "-fmacro-prefix-map=a\"=x -c quote.c": "quote.c: error: -fmacro-prefix-map isn't supported for its __FILE__",
     "-c up.c": "up.h: behind a symbolic link",
     "-Ilink/../inc -c src/low.c": "inc: behind a symbolic link",
     "-Ilink/../b -c src/low.c": "b: behind a symbolic link",
@@ -287,7 +306,8 @@ class Faults(Fronts):
         os.mkdir(os.path.join(self.work, "a/inc"))
         write(self.work, {"a/up.h": "", "up.h": "", "tri.c": 'char *s = "??=";\n',
                           "host.c": "#if __STDC_HOSTED__\n#endif\n", "shadow.c": "#include \"own.h\"\n#include <own.h>\n",
-                          "a/up.c": "", "up.c": '#include "link/../up.h"\n', "file.c": "char *s = __FILE__;\n"})
+                          "a/up.c": "", "up.c": '#include "link/../up.h"\n', "line.c": '#line 2 "file.c"\nchar *s = __FILE__;\n',
+                          "quote.c": '#line 2 "a\\"b"\nchar *s = __FILE__;\n'})
         for words, said in REFUSED.items():
             line = self.refused(*words.split())
             self.assertRegex(line, r"\A[^\n]*error: [^\n]*\n\Z", words)
