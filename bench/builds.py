@@ -47,8 +47,9 @@ t new-session -d -x 80 -y 24 'cat' && t send-keys 'by cppunits' Enter && sleep 1
 t list-commands | sed 's/^/passed /'; t show-options -g | sed 's/^/passed /'
 t split-window -h cat && t list-panes | sed 's/^/passed /'; t kill-server"""
 KERNEL = "make -j$JOBS ARCH=x86_64 CC=cppunits-cc HOSTCC=gcc KBUILD_BUILD_TIMESTAMP=2024-02-09 KBUILD_BUILD_USER=u KBUILD_BUILD_HOST=h"
-BOOT = """gcc -static -O2 $BENCH/linux/init.c -o init && echo init | cpio -o -H newc > initramfs && timeout 300 qemu-system-x86_64 -m 256 -display none \
--monitor none -serial stdio -no-reboot -kernel arch/x86/boot/bzImage -initrd initramfs -append 'console=ttyS0 panic=-1'"""
+BOOT = """mkdir -p initramfs && gcc -static -O2 $BENCH/linux/init.c -o initramfs/init && (cd initramfs && echo init | cpio -o -H newc > ../initramfs.cpio) &&
+timeout 300 qemu-system-x86_64 -m 256 -display none -monitor none -serial stdio -no-reboot -kernel arch/x86/boot/bzImage -initrd initramfs.cpio \\
+-append 'console=ttyS0 panic=-1'"""
 PROJECTS = [
     Project("lua", "lua5.4", "for n in 0002-lua-modules-paths 0001-build-system; do patch -R -p1 < debian/patches/$n.patch; done", "make -C src -j$JOBS CC='cppunits-cc -std=gnu99' linux-readline",
             "src/lua -e %s" % shlex.quote(LUA_TEST), "^passed ", "a script, since the source has no tests; two patches are left out"),
@@ -62,7 +63,7 @@ PROJECTS = [
     Project("tmux", "tmux", "./configure CFLAGS=-O2", "make -j$JOBS", TMUX_TEST, "^passed", "a script, since the source has no tests"),
     Project("libevent", "libevent", "autoreconf -fi && ./configure CFLAGS=-O2", "make -j$JOBS", "test/regress main/.. util/.. evbuffer/.. bufferevent/.. http/..", r"\bOK$",
             "tests: the groups main, util, evbuffer, bufferevent and http of `regress`"),
-    Project("zstd", "libzstd", "true", "make -j$JOBS lib zstd CFLAGS=-O2 && make -C tests -j$JOBS datagen poolTests invalidDictionaries legacy CFLAGS=-O2",
+    Project("zstd", "libzstd", "true", "make -j$JOBS zstd && make -C tests -j$JOBS datagen poolTests invalidDictionaries legacy",
             "cd tests && ./poolTests; ./invalidDictionaries && echo PASS; ./legacy; ./cli-tests/run.py --zstd=../programs/zstd --datagen=./datagen", "PASS",
             "tests: `poolTests`, `invalidDictionaries`, `legacy` and `cli-tests`"),
     Project("redis", "redis", "true", "make -j$JOBS CC=cppunits-cc MALLOC=libc OPTIMIZATION=-O2 DEBUG= DEBUG_FLAGS=",
