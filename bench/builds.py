@@ -51,7 +51,8 @@ BOOT = """mkdir -p initramfs && gcc -static -O2 $BENCH/linux/init.c -o initramfs
 timeout 300 qemu-system-x86_64 -m 256 -display none -monitor none -serial stdio -no-reboot -kernel arch/x86/boot/bzImage -initrd initramfs.cpio \\
 -append 'console=ttyS0 panic=-1'"""
 PROJECTS = [
-    Project("lua", "lua5.4", "for n in 0002-lua-modules-paths 0001-build-system; do patch -R -p1 < debian/patches/$n.patch; done", "make -C src -j$JOBS CC='cppunits-cc -std=gnu99' linux-readline",
+    Project("lua", "lua5.4", "for n in 0002-lua-modules-paths 0001-build-system; do patch -R -p1 < debian/patches/$n.patch; done",
+            "make -C src -j$JOBS CC='cppunits-cc -std=gnu99' linux-readline",
             "src/lua -e %s" % shlex.quote(LUA_TEST), "^passed ", "a script, since the source has no tests; two patches are left out"),
     Project("zlib", "zlib", "./configure", "make -j$JOBS", "make test", r"zlib .*test OK"),
     Project("bzip2", "bzip2", "true", "make -j$JOBS CC=cppunits-cc CFLAGS='-Wall -Winline -O2 -D_FILE_OFFSET_BITS=64'",
@@ -61,7 +62,8 @@ PROJECTS = [
     Project("jq", "jq", "autoreconf -fi && ./configure CFLAGS=-O2 --disable-docs --disable-valgrind", "make -j$JOBS", "make check; cat tests/*.log",
             r"^(\d+) of \d+ tests passed"),
     Project("tmux", "tmux", "./configure CFLAGS=-O2", "make -j$JOBS", TMUX_TEST, "^passed", "a script, since the source has no tests"),
-    Project("libevent", "libevent", "autoreconf -fi && ./configure CFLAGS=-O2", "make -j$JOBS", "test/regress main/.. util/.. evbuffer/.. bufferevent/.. http/..", r"\bOK$",
+    Project("libevent", "libevent", "autoreconf -fi && ./configure CFLAGS=-O2", "make -j$JOBS",
+            "test/regress main/.. util/.. evbuffer/.. bufferevent/.. http/..", r"\bOK$",
             "tests: the groups main, util, evbuffer, bufferevent and http of `regress`"),
     Project("zstd", "libzstd", "true", "make -j$JOBS zstd && make -C tests -j$JOBS datagen poolTests invalidDictionaries legacy",
             "cd tests && ./poolTests; ./invalidDictionaries && echo PASS; ./legacy; ./cli-tests/run.py --zstd=../programs/zstd --datagen=./datagen", "PASS",

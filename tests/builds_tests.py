@@ -41,8 +41,8 @@ class Comparisons(Folder):
             self.assertEqual(builds.passed(pattern, text), count, pattern)
 
     def test_objects(self):
-        write(self.top, {"one/a.o": OBJECT + b"a", "one/d/b.lo": OBJECT, "one/d/text.lo": "# libtool", "one/only.o": OBJECT, "one/prog": EXECUTABLE, "one/empty.o": "",
-                         "two/a.o": OBJECT + b"b", "two/d/b.lo": OBJECT, "two/prog": EXECUTABLE + b"x"})
+        write(self.top, {"one/a.o": OBJECT + b"a", "one/d/b.lo": OBJECT, "one/d/text.lo": "# libtool", "one/only.o": OBJECT, "one/prog": EXECUTABLE,
+                         "one/empty.o": "", "two/a.o": OBJECT + b"b", "two/d/b.lo": OBJECT, "two/prog": EXECUTABLE + b"x"})
         os.symlink("a.o", self.path("one/link.o"))
         os.mkfifo(self.path("two/pipe.o"))
         self.assertEqual(builds.unequal(self.path("one"), self.path("two"), set()), (["a.o", "d/b.lo", "only.o"], ["a.o", "only.o"]))
@@ -63,7 +63,8 @@ class Comparisons(Folder):
     def test_the_row(self):
         project = builds.Project("p", "q", "", "", "", "", "a note")
         direct = types.SimpleNamespace(project=project, units=["a.c"], warnings={("a.c", 1, "-Wx"), ("a.c", 2, "")}, passed=7, seconds=1.4, past=[], made=set())
-        front = types.SimpleNamespace(project=project, units=["a.c", "b.c"], warnings={("a.c", 1, "-Wx"), ("b.c", 9, "-Wy")}, passed=6, seconds=2.5, past=["c.c"], made=set())
+        front = types.SimpleNamespace(project=project, units=["a.c", "b.c"], warnings={("a.c", 1, "-Wx"), ("b.c", 9, "-Wy")}, passed=6, seconds=2.5,
+                                      past=["c.c"], made=set())
         write(self.top, {"one/a.o": OBJECT, "one/b.o": OBJECT, "two/a.o": OBJECT, "two/b.o": OBJECT + b"x"})
         row = builds.Row("1.0-1", direct, front, (self.path("one"), self.path("two")))
         self.assertEqual(row.cells(), ["p", "1.0-1", "2", "2", "1", "3", "1", "7", "6", "1", "2", "a note"])
@@ -101,8 +102,8 @@ class Builds(Folder):
 
     def test_what_differs(self):
         # a build that sees by the caches which way it goes
-        status, cells, told = self.built({"a.c": "int main(void) { return 0; }\n", "past.c": ""}, build="cppunits-cc -c a.c; test -d $XDG_CACHE_HOME && echo >> a.o; true",
-                                         tests="test -d $XDG_CACHE_HOME || echo ok")
+        status, cells, told = self.built({"a.c": "int main(void) { return 0; }\n", "past.c": ""},
+                                         build="cppunits-cc -c a.c; test -d $XDG_CACHE_HOME && echo >> a.o; true", tests="test -d $XDG_CACHE_HOME || echo ok")
         self.assertEqual((status, [row[:9] for row in cells], told), (1, [["p", "1:1.0-1", "1", "1", "0", "0", "0", "1", "0"]], ["p: unequal object: a.o"]))
 
     def test_a_fault_ends_the_build(self):
