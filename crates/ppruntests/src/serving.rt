@@ -3,6 +3,7 @@ ghost use Rattle.std.specs.Prelude.{◌≡◌};
 
 mod answers;
 mod devices;
+mod in_memory;
 mod streams;
 
 use devices::{Limits, Reader, UNLIMITED, Writer};

@@ -48,3 +48,5 @@ pub mod TextItems
 pub mod SegmentItems
 -- A text begins anew at each mark: the text of items is that of their segments.
 pub mod Segments
+-- Units that are preprocessed one after another, over files that grow.
+pub mod UnitsInTurn

@@ -71,6 +71,11 @@ pub record Refuses (inline : Bool) (input : Stream) (number : ℕ) : Type 0 wher
   pub received : Received input bytes
   pub is_refused : verdict_of inline bytes ≡ refused number
 
+-- The text is the whole output of a list in memory, which holds its files: that of a run whose reader has these bytes, and
+-- whose writer is given the text alone.
+abbrev pub ServesInMemory : Mode → List ℕ → Bool → List ℕ → Type 0
+ServesInMemory mode bytes any text = Serves true AreInList mode (record { before = Some bytes; after = Some [] }) (record { before = Some []; after = Some text }) any
+
 -- ---- with a disk or without one
 
 -- Without a disk the list holds its files; with one it only names them.

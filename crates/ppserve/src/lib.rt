@@ -4,6 +4,7 @@
 mod chain;
 mod exit_status;
 mod formatting;
+mod in_memory;
 mod laws;
 mod line_cursor;
 mod line_prefix;
@@ -18,6 +19,7 @@ mod streams;
 mod text_output;
 
 pub use exit_status::{status, words};
+pub use in_memory::{Printed, serve_in_memory};
 pub use laws::{known_bytes_decide, one_output, refuses_by_the_least, shape_decides, some_output};
 pub use list::{List, ListFault, Units, read_list};
 pub use output::{Mode, deps, dump, faults, text};

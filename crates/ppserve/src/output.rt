@@ -119,18 +119,23 @@ pub(crate) struct Output<'a> {
 fn print_to_vec(alloc: Global, mode: Mode, list: &List, outs: &[UnitOut]) -> Result<Vec<u8>, Memory>
     ensures { IfOk result (λ text. text.items ≡ output_text mode list.now outs.now) }
 {
-    let mut buf = OutBuffer::new(alloc)?;
-    let mut text = VecSink::new(alloc);
-    let names = list.names.as_slice();
-    let units = list.units.as_slice();
     let output = Output {
         mode,
-        names,
-        units,
+        names: list.names.as_slice(),
+        units: list.units.as_slice(),
         outs,
     };
+    print_alone(alloc, output)
+}
+
+/// Returns the output of units. Fails only if an allocation fails.
+pub(crate) fn print_alone(alloc: Global, output: Output) -> Result<Vec<u8>, Memory>
+    ensures { IfOk result (λ text. text.items ≡ output_bytes output.entry) }
+{
+    let mut buf = OutBuffer::new(alloc)?;
+    let mut text = VecSink::new(alloc);
     let mut cursor = LineCursor::new(alloc, output)?;
-    put_through(&mut buf, &mut text, names, &mut cursor);
+    put_through(&mut buf, &mut text, output.names, &mut cursor);
     if text.failed() {
         return Err(Memory);
     }

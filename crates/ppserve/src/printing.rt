@@ -61,7 +61,7 @@ fn put_by_workers<T: Threads + Sync, W: Sink>(
 }
 
 /// Returns whether a unit has a fault.
-fn any_fault(outs: &[UnitOut]) -> bool
+pub(crate) fn any_fault(outs: &[UnitOut]) -> bool
     ensures { result ≡ any_fault outs.now }
 {
     for out in outs {

@@ -64,7 +64,7 @@ impl AtEnd {
 }
 
 /// Returns what must be kept of outputs to print them.
-fn needed_retention(mode: Mode) -> Retain
+pub(crate) fn needed_retention(mode: Mode) -> Retain
     ensures { result ≡ needed_retention mode }
 {
     match mode {
@@ -91,11 +91,11 @@ pub(crate) fn no_disk(alloc: Global) -> MemoryDisk
 
 /// What a run preprocesses: units with their setting, over a file table and the disk from which it reads the files that
 /// it doesn't know.
-struct Run<'d, D: Disk> {
-    shelf: Shelf<D>,
-    disk: &'d D,
-    setting: Setting,
-    units: Units,
+pub(crate) struct Run<'d, D: Disk> {
+    pub shelf: Shelf<D>,
+    pub disk: &'d D,
+    pub setting: Setting,
+    pub units: Units,
 }
 
 /// Preprocesses the units of a list that holds its files, and writes their output once all are done. Returns whether a
@@ -132,7 +132,7 @@ pub(crate) fn run_with_contents<T: Threads + Sync, W: Sink>(
 }
 
 /// Creates a file table with these names and moves the contents into it.
-fn filled_shelf(
+pub(crate) fn filled_shelf(
     alloc: Global,
     names: FileNames,
     profile: Profile,

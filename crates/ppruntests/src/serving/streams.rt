@@ -9,10 +9,10 @@ use std::process::Abort;
 use std::test::Fail;
 use std::thread::Threads;
 
-const EXAMPLE: &str =
+pub(super) const EXAMPLE: &str =
     r#"{"date":"Feb  9 2024","time":"08:05:03","files":[{"name":"a.c","text":"a+b/**/c\n"}],"units":[{"file":"a.c"}]}"#;
 
-const EXAMPLE_OUTPUT: &str =
+pub(super) const EXAMPLE_OUTPUT: &str =
     "unit 0 a.c\ntok 0:1:1 0:1:1 i+ a\ntok 0:1:2 0:1:2 p- +\ntok 0:1:3 0:1:3 i- b\ntok 0:1:8 0:1:8 i+ c\ndep 0 a.c\nok\n";
 
 #[test]
