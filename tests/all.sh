@@ -1,12 +1,12 @@
 #!/bin/sh
 # The full check.  First `rt ci`, and whether the crates' tests call each public function.  Then tests of the program
 # that it builds: rows of conditions, macro replacement, files, budgets and tokens; texts that are read back and
-# compiled; files compared with plain passes of phases 1 and 2; the tests of the scripts; the examples of the README and
-# of docs/; what docs/ says of the crates; cut texts and lists; the limits that take no seconds (names, contents of a
-# directory, includes, conditions, arguments, `#line`, options, units, files, contents of a list, definitions); which
-# lists are refused, and the output for the others; all depths at once in a small stack; streams and files that fail;
-# and runs with refused memory.  The last line is `N passed, N failed` for all of it.  Before it stand the missed tests,
-# each with the missing program and its Debian package.  Longer tests are in tests/hostile.sh.
+# compiled; files compared with plain passes of phases 1 and 2; the library for C; the tests of the scripts; the examples
+# of the README and of docs/; what docs/ says of the crates; cut texts and lists; the limits that take no seconds
+# (names, contents of a directory, includes, conditions, arguments, `#line`, options, units, files, contents of a list,
+# definitions); which lists are refused, and the output for the others; all depths at once in a small stack; streams and
+# files that fail; and runs with refused memory.  The last line is `N passed, N failed` for all of it.  Before it stand
+# the missed tests, each with the missing program and its Debian package.  Longer tests are in tests/hostile.sh.
 #
 #     tests/all.sh [PROGRAM]     with a PROGRAM, no `rt ci`: only the other tests, of this program
 case ${1:-/} in
@@ -85,6 +85,8 @@ else
         export RT_JOBS
     fi
     count rt ci
+    # `rt ci` proves a static library, and builds none
+    has cc "the build of the library" && count sh scripts/library.sh --checked
     CPPUNITS=$PWD/crates/cppunits/out/cppunits
 fi
 export CPPUNITS
@@ -103,6 +105,7 @@ if has python3 "the tests of the scripts and documents"; then
     begin python3 tests/deps_tests.py
     begin python3 tests/scripts_tests.py
     begin python3 tests/faults_tests.py
+    begin python3 tests/library_tests.py
     begin python3 tests/slurm_tests.py
     begin python3 tests/projects_tests.py
     begin python3 tests/builds_tests.py

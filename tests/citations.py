@@ -18,7 +18,8 @@ WORD = re.compile(r"[^\W\d][\w']*(?:\.[^\W\d][\w']*)*")
 FORM = r"(?:abbrev|unfoldable|record|data)"
 DEFINITION = re.compile(r"^\s*(?:%s pub|pub %s|%s) (?!mutual\b)([\w']+)" % (FORM, FORM, FORM))
 TYPED = re.compile(r"^\s+(?:pub )?([\w']+) :")
-FUNCTION = re.compile(r"^(\s*)(pub(?:\(\w+\))? )?(?:const )?fn (\w+)(?P<law>(?:<.*>)?\((?:&self)?\)$)?")
+FUNCTION = re.compile(r'^(\s*)(pub(?:\(\w+\))? )?(?:const |extern "C" )?fn (\w+)(?P<law>(?:<.*>)?\((?:&self)?\)$)?')
+EXPORT_TO_C = re.compile(r'^pub extern "C" fn (\w+)', re.M)
 TYPE = re.compile(r"^(?:pub(?:\(\w+\))? )?(struct|enum|trait) (\w+)")
 OWNER = re.compile(r"^impl\s+(?:.*\bfor\s+)?(?:&\S*\s*)?([A-Z]\w*)")
 GHOST = re.compile(r"^\s+ghost (\w+)\b\s*[:=]?(.*)")
@@ -169,7 +170,7 @@ class Source:
         self.crate = os.path.relpath(path, CRATES).split(os.sep)[0]
         self.lines, (self.names, self.modules) = text.splitlines(), imports(text)
         listed = re.findall(r"^pub use ([^;]*);", text_of(os.path.join(CRATES, self.crate, "src", self.root())), re.M)
-        self.exported = set(re.findall(r"\w+", " ".join(listed)))
+        self.exported = set(re.findall(r"\w+", " ".join(listed))) | set(EXPORT_TO_C.findall(text))
 
     def root(self):
         return "lib.rt" if os.path.exists(os.path.join(CRATES, self.crate, "src", "lib.rt")) else "main.rt"

@@ -15,7 +15,7 @@ CRATES = os.path.join(TOP, "crates")
 # parameters of a function
 LONG_LINES, LEMMAS, MUTANTS, LINES, PARAMETERS = 40, 40, 100, 800, 6
 LONG = 240
-FUNCTION = re.compile(r"^ *(?:pub(?:\(\w+\))? )?(?:const )?fn (\w+)(.*?)(?:\{$|;$|^ *(?:requires|ensures))", re.M | re.S)
+FUNCTION = re.compile(r'^ *(?:pub(?:\(\w+\))? )?(?:const |extern "C" )?fn (\w+)(.*?)(?:\{$|;$|^ *(?:requires|ensures))', re.M | re.S)
 
 
 def files(*endings):
