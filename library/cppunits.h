@@ -6,8 +6,8 @@
    calls, so threads may call at the same time.  It allocates by malloc and realloc, and frees all of it before it returns.
 
    What is proved is the output for the bytes of a list (docs/SPECIFICATION.md).  It rests on what C can't promise by itself:
-   - Each pointer leads to memory as its comment says, which no other thread writes during the call.
-   - No two of the pointers lead to the same memory, except into the list.
+   - Each pointer leads to memory as its comment says.  No other thread writes it during the call, nor reads what the call writes.
+   - `list` and `out` don't overlap.
    - The thread has 256 KB of stack left.
    - malloc, realloc and free are those of one allocator, with blocks aligned to 16 bytes.
    - No call is made in a signal handler, or in the child of a fork of a process that had several threads.
