@@ -2,7 +2,7 @@
 ghost use Rattle.std.specs.Prelude.{◌≡◌, ◌≤◌, ◌∷◌, [], Some, length, IfOk, MatchOption, OnOk};
 ghost use Rattle.ppunit.specs.code.Walk.{next_file, next_suspended, contexts_restored};
 
-use crate::open_file::{Entered, EnteredParts, OpenFile};
+use crate::open_file::{Entered, OpenFile};
 use crate::states::{FileContext, Resumption, State};
 use pptext::Memory;
 use std::alloc::Global;
@@ -67,17 +67,15 @@ impl<'a> Stack<'a> {
         ensures file { IfOk result (λ next. next ≡ next_file file.entry (Some entered.entry)) }
         ensures suspended { OnOk result (self.new ≡ next_suspended file.entry (Some entered.entry) self.old) }
     {
-        let EnteredParts {
-            file: next,
-            outer,
-            resumption,
-        } = entered.into_parts();
+        let parts = entered.into_parts();
+        let file_context = parts.outer;
+        let resumption = parts.resumption;
         self.files.push(SuspendedFile {
             file,
-            file_context: outer,
+            file_context,
             resumption,
         })?;
-        Ok(next)
+        Ok(parts.file)
     }
 
     /// Takes the last suspended file out.

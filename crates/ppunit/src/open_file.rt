@@ -202,7 +202,7 @@ impl<'x> Model for Entered<'x> {
 impl<'x> Entered<'x> {
     /// Returns the parts.
     pub(crate) fn into_parts(self) -> EnteredParts<'x>
-        ensures { result ≡ self }
+        ensures { result ≡ self.entry }
     {
         let Entered { parts } = self;
         Box::into_inner(parts)

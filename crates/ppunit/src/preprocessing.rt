@@ -26,7 +26,7 @@ ghost use Rattle.ppunit.specs.code.Walk.{DefinesOver};
 use crate::collections::{Items, Rows};
 use crate::command_macros::{COMMAND_FILE, CommandMacros};
 use crate::laws::{budget_caps_units, stays_in_budget};
-use crate::open_file::{EnteredParts, OpenFile, Opening, UnitContext};
+use crate::open_file::{OpenFile, Opening, UnitContext};
 use crate::preprocessor::Preprocessor;
 use crate::shown_names::{Showing, copy_shown};
 use crate::states::{Resumption, State};
@@ -67,15 +67,11 @@ impl<'x, 'a: 'x, D: Disk> Preprocessor<'_, 'x, 'a, D> {
         let Some(entered) = self.open(depth, at, opening)? else {
             return Ok(());
         };
-        let EnteredParts {
-            file,
-            outer,
-            resumption,
-        } = entered.into_parts();
-        let walked = self.walk(depth, file);
-        self.state.restore_context(outer);
+        let parts = entered.into_parts();
+        let walked = self.walk(depth, parts.file);
+        self.state.restore_context(parts.outer);
         walked?;
-        self.state.resume(resumption)?;
+        self.state.resume(parts.resumption)?;
         Ok(())
     }
 

@@ -1,6 +1,5 @@
 //! The state of phase 4 in a unit.
-ghost use Rattle.std.specs.Prelude.{◌≡◌, ◌<◌, ◌+◌, pos, ◌+ℤ◌, nat_abs, IfOk, OnOk, true, false, [], ◌∷◌, ◌++◌, ◌==◌, ◌||◌, None, length};
-ghost use Rattle.std.specs.List.{list_any};
+ghost use Rattle.std.specs.Prelude.{◌≡◌, ◌<◌, ◌+◌, pos, ◌+ℤ◌, nat_abs, IfOk, OnOk, true, false, [], ◌∷◌, ◌++◌, None, length};
 ghost use Rattle.ppexpand.specs.Budget.{is_exhausted};
 ghost use Rattle.ppunit.specs.States.{file_context, in_file_context, emitted, marked, resumed, running, with_system_row, with_dependency, with_once, with_macro_pushed, with_macro_popped, with_one_spent, with_waiting, named};
 ghost use Rattle.ppmacro.specs.Predefined.{initial_macros};

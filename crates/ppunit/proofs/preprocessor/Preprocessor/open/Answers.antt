@@ -1,4 +1,4 @@
-use Rattle.std.proofs.Common.{◌≡◌, ℕ, List, Some, subst}
+use Rattle.std.proofs.Common.{◌≡◌, ◌∙◌, ℕ, List, Some, ap, subst}
 use Rattle.std.specs.Prelude.{unwrap_or}
 use Rattle.pptext.proofs.ErrorReturns.{stopped}
 use Rattle.ppshelf.specs.Names.{name_in}
@@ -53,6 +53,6 @@ returns-clause-opened g c =
     let lines = subst (λ (z : ToOpen). HasLines c.args.self.now.context.now.shelf c.source_of.new.self.pass.now.files z.row c.in_ok-source.source.now) c.opening.view_is
     c.in_ok-source.ensures.lines in
     let begins = subst (λ (z : List ℕ). Begins c.args.at c.args.opening.row (shown_as (unwrap_or c.args.opening.shown z) c.args.opening) c.in_ok-source.source.now c.record_dependency.new.state c.begin.new.state
-    c.in_ok-begin.field-0) c.own_name-own.ensures (rw c.source_of.ensures.state at c.in_ok-begin.ensures) in
+    c.in_ok-begin.field-0) (c.own_name-own.ensures ∙ ap (λ (z : ToOpen). name_in names z.row) c.opening.view_is) (rw c.source_of.ensures.state at c.in_ok-begin.ensures) in
     opens_begun c.args.self.now.context.now c.source_of.new.self.pass.now.files c.args.depth c.args.opening.row (opening_in names c.args.opening)
     c.args.at c.args.self.now.state c.record_dependency.new.state c.begin.new.state c.in_ok-source.source.now c.in_ok-begin.field-0 noted lines begins
