@@ -223,7 +223,7 @@ def text(work):
         try:
             path = places.own(Result(command, [], [], None), unit.number, work.report)
             if unit.fault is None:
-                compilation = Compilation(command, b"".join(text_of(unit)), work.compilers.is_clang(command))
+                compilation = Compilation(command, b"".join(text_of(unit)), work.compilers.macros(command))
                 write_text(compilation.text, path)
                 database.entries.append(compilation.entry(path))
             else:

@@ -14,6 +14,7 @@ from files import hashed
 from lists import Additions
 
 NAME = re.compile(r"(?:\w[\w.]*-){0,5}(?:cc|gcc|clang)(?:-\d[\d.]*)?")
+TCC = re.compile(r"(?:\w[\w.]*-){0,5}tcc")
 PLACES = ("/usr/", "/opt/")
 SECONDS, MAX_ANSWER, AT_ONCE = 10, 16777216, 4
 OPERATORS = ("has_attribute", "has_builtin", "has_c_attribute", "has_cpp_attribute", "has_feature", "has_extension", "building_module")
@@ -67,7 +68,7 @@ class Answer:
     def definitions(self):
         """Returns all definitions by name, with those of the operators."""
         if self.whole is None:
-            self.whole = {**self.macros, **HAS_INCLUDE, **{defined_name(text): text for text in self.of_operators()}}
+            self.whole = {**self.macros, **({} if "__TINYC__" in self.macros else HAS_INCLUDE), **{defined_name(text): text for text in self.of_operators()}}
         return self.whole
 
     def of_operators(self):
@@ -107,10 +108,12 @@ class Compilers:
             self.ask_for([command])
         return self.answers[key]
 
-    def is_clang(self, command):
-        """Returns whether the command's compiler is clang, by its macros, or by its name if it isn't asked."""
+    def macros(self, command):
+        """Returns the definitions of the command's compiler by name; of one that isn't asked no more than that it is clang, by its name."""
         answer = self.answer(command)
-        return "clang" in os.path.basename(command.compiler) if answer is None else "__clang__" in answer.macros
+        if answer is None:
+            return {"__clang__": "__clang__ 1"} if "clang" in os.path.basename(command.compiler) else {}
+        return answer.macros
 
     def ask_for(self, all_commands):
         """Gets all answers that these commands need."""
@@ -207,10 +210,17 @@ def base_file(command):
 
 def answer_of(program, options, limit):
     """Asks a compiler for its directories and macros."""
-    told = ask(program, options, ["-v"], False, limit)
+    told = told_by_tcc(program, options, limit) if TCC.fullmatch(os.path.basename(program)) else ask(program, options, ["-v"], False, limit)
     answer = Answer(folders_of(told), macros_of(ask(program, options, ["-dM"], True, limit)))
     answer.absent = re.findall(r'^ignoring nonexistent directory "([^"\n]+)"$', told, re.MULTILINE)
     return answer
+
+
+def told_by_tcc(program, options, limit):
+    """Returns the directories of tcc in the words of gcc."""
+    printed = output_of([program, "-print-search-dirs"], b"", True, limit)
+    folders = [] if "-nostdinc" in options else re.findall(r"^  (/.*)$", printed.partition("\ninclude:\n")[2].partition("\nlibraries:\n")[0], re.MULTILINE)
+    return "\n".join(["#include <...> search starts here:", *(" " + folder for folder in folders), "End of search list"])
 
 
 def operator_values(program, options, limit, pairs):

@@ -48,9 +48,9 @@ def triples(words):
 class Compilation:
     """Is a unit's command with its text in place of the source.  The text is as its compiler wants it."""
 
-    def __init__(self, command, text, clang):
-        self.command, self.asked, self.clang = command, Parsed(command.words, command.directory), clang
-        text = for_clang(text) if clang else text
+    def __init__(self, command, text, macros):
+        self.command, self.asked, self.macros = command, Parsed(command.words, command.directory), macros
+        text = for_clang(text) if "__clang__" in macros else text
         self.text = with_comments(text, command.directory) if self.asked.wants_comments() else text
 
     def entry(self, path):
@@ -62,7 +62,7 @@ class Compilation:
         if asked.output is None and asked.step in ENDS:
             # the text may have another name
             asked.output = os.path.splitext(os.path.basename(source.name))[0] + ENDS[asked.step]
-        found = {"directory": command.directory, "arguments": [*command.before, *asked.second(self.clang)], "file": source.text}
+        found = {"directory": command.directory, "arguments": [*command.before, *asked.second(self.macros, [self.text])], "file": source.text}
         output = asked.output or command.output
         return {**found, "output": output} if output else found
 

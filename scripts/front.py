@@ -49,9 +49,6 @@ class Real:
     def name(self):
         return os.path.basename(self.path)
 
-    def is_clang(self):
-        return "clang" in os.path.basename(os.path.realpath(self.path))
-
     def command(self, words):
         return [self.path, *self.words, *words]
 
@@ -224,7 +221,7 @@ class Front:
         for unit in made:
             base = os.path.splitext(os.path.basename(unit.source.name))[0]
             unit.source.text = self.folder.write(base + ".i", self.for_compiler(unit))
-        status = run(self.real.command(self.asked.second(self.real.is_clang())))
+        status = run(self.real.command(self.asked.second(made[0].answer.macros, [unit.text for unit in made])))
         if status == 0:
             self.write_rules(made)
         return status or (FAILED if stopped else 0)

@@ -22,6 +22,7 @@ SUFFIXES = {".c": "c", ".h": "c-header", ".i": "cpp-output", ".s": "assembler", 
 # inputs in these languages aren't preprocessed
 FINISHED = {"cpp-output", "c++-cpp-output", "assembler", "ir", "object"}
 STRAY = re.compile(rb"^ +(#|%:)", re.MULTILINE)
+WORD = re.compile(rb"[A-Za-z_]\w*")
 # clang's preprocessor executes these; in a text clang refuses them, since their macros aren't defined there
 OF_MACROS = re.compile(rb"^#pragma +clang +(?:deprecated|restrict_expansion|final)\b[^\n]*", re.MULTILINE)
 # gcc and clang hold these warnings back where a macro's tokens cause them, which text doesn't say
@@ -111,8 +112,10 @@ class Parsed:
         sources = self.sources()
         return any(one.language not in FINISHED for one in self.inputs if one not in sources)
 
-    def second(self, clang):
-        """Returns the words for the compiler after the preprocessor: each C file is its text, or left out if it has none."""
+    def second(self, macros, texts):
+        """Returns the words for the compiler after the preprocessor: each C file is its text, or left out if it has none.
+
+        The macros of the compiler say which one it is; `texts` has the texts that it gets."""
         sources, found = self.sources(), list(self.own) if self.others() else []
         for word in self.rest:
             if isinstance(word, tuple):
@@ -123,9 +126,13 @@ class Parsed:
                 found.append(word if isinstance(word, str) else word.name)
         if self.output is not None:
             found += ["-o", self.output]
+        clang = "__clang__" in macros
         if "-Werror" in found:
             found += ["-Wno-error=" + name for name in (IN_MACROS_OF_CLANG if clang else IN_MACROS)]
-        return found + ["-fno-trigraphs", "-Wno-unused-command-line-argument"] * clang
+        # tcc replaces macros in a text, too
+        words = set().union(*map(WORD.findall, texts)) if "__TINYC__" in macros else ()
+        none = ["-U" + name for name in macros if name.encode() in words]
+        return found + none + ["-fno-trigraphs", "-Wno-unused-command-line-argument"] * clang
 
     def wants_comments(self):
         """Returns whether gcc looks for comments in the text which say that a case goes on in the next."""

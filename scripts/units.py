@@ -93,7 +93,7 @@ class Unit:
 
     def has_first(self):
         """Returns whether the compiler itself reads stdc-predef.h first, whose macros are among its own."""
-        return self.answer.hosted and "__clang__" not in self.answer.macros
+        return self.answer.hosted and "__GNUC__" in self.answer.macros and "__clang__" not in self.answer.macros
 
     def is_after_gcc_11(self):
         """Returns whether the compiler is gcc 11 or a later one."""
@@ -143,16 +143,17 @@ class Maker:
             raise Stopped("%s: fault %s of cppunits" % (source.name, number), lambda: self.tell(listed, unit))
         if reason := dated(notes.dates, unit.text):
             raise Stopped("%s: error: %s" % (source.name, reason))
-        text = self.mapped(source.name, listed, unit.text)
-        return Unit(source, command, for_clang(text) if self.front.real.is_clang() else text, builder)
+        clang = "__clang__" in self.compilers.macros(command)
+        text = self.mapped(source.name, listed, unit.text, clang)
+        return Unit(source, command, for_clang(text) if clang else text, builder)
 
-    def mapped(self, name, listed, text):
+    def mapped(self, name, listed, text, clang):
         """Returns a text in which `__FILE__` is as -fmacro-prefix-map and -ffile-prefix-map want it.  Where it is, a second text says."""
         maps = prefix_maps(self.front.asked.words)
         if not any(re.search(b'^(?!# ).*"' + re.escape(in_literal(old)), text, re.MULTILINE) for _, old, _ in maps):
             return text
         option = maps[0][0]
-        if not self.front.real.is_clang() and TAG not in text and all(PLAIN.fullmatch(word) for pair in maps for word in pair[1:]):
+        if not clang and TAG not in text and all(PLAIN.fullmatch(word) for pair in maps for word in pair[1:]):
             marked = self.output("text", tagged(listed)).text
             lines = [marker[1] for marker in MARKER.finditer(marked) if not marker[1].startswith(TAG)]
             # a name of #line has no tag, and is mapped too

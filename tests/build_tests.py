@@ -110,6 +110,14 @@ class Compilers(Builds):
         write(self.top, {"a.c": "#ifdef __building_module\nyes\n#endif\n__BASE_FILE__\n"})
         self.assertEqual(self.tokens(["gcc -c a.c"])[0], [['"a.c"']])
 
+    def test_names_that_may_not_be_defined(self):
+        """Wants a line for each option, with the fault that the definition would be, and the unit without it."""
+        self.compiler("bin/gcc")
+        options = ["-D__DATE__=\"x\"", "-D__TIME__", "-D__FILE__=1", "-Ddefined"]
+        tokens, messages = self.tokens([["gcc", *options, "-c", "a.c"]], status=1)
+        self.assertEqual(messages[:-1], ["build.py: %s: %s: this name may not be defined (fault 10)" % (self.path("a.c"), option) for option in options])
+        self.assertEqual(tokens, [["int", "sys", ";", "1"]])
+
     def test_profiles(self):
         """Wants no operators and no `__STDC_VERSION__` of the compiler in a profile that doesn't allow them."""
         self.compiler("bin/gcc")

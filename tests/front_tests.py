@@ -9,9 +9,13 @@ import shlex
 import shutil
 import signal
 import subprocess
+import sys
 import time
 
 from counted import TOP, Folder, main, missed, program, run, well, write
+
+sys.path.insert(0, os.path.join(TOP, "bench"))
+from cutter import spellings  # noqa: E402
 
 FRONT = os.path.join(TOP, "scripts", "cppunits-cc")
 MAIN = r"""#include "own.h"
@@ -189,6 +193,30 @@ class Options(Fronts):
 
 class OptionsOfClang(Options):
     compiler = "clang"
+
+
+class Tcc(Fronts):
+    """Tests tcc, which preprocesses the text once more, and whose objects have its name."""
+
+    compiler = "tcc"
+
+    def test_a_program(self):
+        self.made("-Iinc", "src/main.c", "src/low.c", "-o", "prog")
+        self.assertEqual(run([os.path.join(self.work, "prog")]).stdout, b"low(N) + OWN + API 40\n")
+        self.made("-Iinc", "-MMD", "-c", "src/main.c")
+        self.assertEqual(read(self.work, "main.d").replace(b"\\\n", b" ").split(), [b"main.o:", b"src/main.c", b"src/own.h", b"inc/api.h"])
+        self.assertIn(b"src/main.c:3: error: include file 'api.h' not found", run(["tcc", "-c", "src/main.c"], cwd=self.work).stderr)
+        self.assertIn("src/main.c:3:10: error: no such file: api.h [fault 31]", self.refused("-c", "src/main.c"))
+
+    def test_the_same_tokens(self):
+        names = "assert ctype errno float limits math pthread setjmp signal stdarg stdbool stddef stdint stdio stdlib string sys/socket time unistd wchar"
+        write(self.work, {"u.c": "".join("#include <%s.h>\n" % name for name in names.split()) + "char *b = __BASE_FILE__, *f = __FILE__; int l = __LINE__;\n"
+                                 "#ifdef __has_include\nint has;\n#endif\n"})
+        self.assertEqual(*(spellings(text) for text in (self.made("-E", "-P", "u.c"), well(["tcc", "-E", "-P", "u.c"], cwd=self.work))))
+
+    def test_macros_of_its_own_that_are_none_in_a_unit(self):
+        write(self.work, {"u.c": "#undef unix\n#undef __x86_64__\nint unix, __x86_64__;\n"})
+        self.made("-c", "u.c")
 
 
 class Dependencies(Fronts):
