@@ -56,8 +56,10 @@ class Compilation:
     def entry(self, path):
         """Returns the entry for the text, which is the file of this path."""
         asked, command, source = self.asked, self.command, self.source()
-        if reason := stray(self.text) or asked.renamed(self.text):
+        if reason := stray(self.text):
             raise NoEntry(reason)
+        if option := asked.renames(self.text):
+            raise NoEntry("%s isn't supported for its __FILE__" % option)
         source.text = os.path.abspath(path)
         if asked.output is None and asked.step in ENDS:
             # the text may have another name

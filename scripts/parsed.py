@@ -138,20 +138,31 @@ class Parsed:
         """Returns whether gcc looks for comments in the text which say that a case goes on in the next."""
         return any(word in ("-W", "-Wextra") or word.startswith("-Wimplicit-fallthrough") for word in self.words)
 
-    def renamed(self, text):
-        """Returns what is wrong with a text that has `__FILE__` of a file whose name the compiler would change there, or None."""
+    def prefix_maps(self):
+        """Returns the options that change `__FILE__`, each with the beginnings of names that it replaces and puts there, the one that counts first."""
+        found = []
         for option, sign, value in (word.partition("=") for word in self.words):
             if sign and option in ("-fmacro-prefix-map", "-ffile-prefix-map"):
-                old = re.escape(os.fsencode(value.rpartition("=")[0]).replace(b"\\", b"\\\\").replace(b'"', b'\\"'))
-                if re.search(b'^(?!# ).*"' + old, text, re.MULTILINE):
-                    return "%s isn't supported for its __FILE__" % option
-        return None
+                old, _, new = os.fsencode(value).rpartition(b"=")
+                found.insert(0, (option, old, new))
+        return found
+
+    def renames(self, text):
+        """Returns the option that would change a `__FILE__` in a text, or None."""
+        maps = self.prefix_maps()
+        wanted = any(re.search(b'^(?!# ).*"' + re.escape(in_literal(old)), text, re.MULTILINE) for _, old, _ in maps)
+        return maps[0][0] if wanted else None
 
 
 def stray(text):
     """Returns what is wrong with a text that a compiler would read in another way, or None; no C program has such a token."""
     found = STRAY.search(text)
     return found and "stray '%s' in program" % found[1].decode()
+
+
+def in_literal(name):
+    """Returns a name as a string literal has it."""
+    return name.replace(b"\\", b"\\\\").replace(b'"', b'\\"')
 
 
 def for_clang(text):

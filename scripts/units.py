@@ -149,10 +149,9 @@ class Maker:
 
     def mapped(self, name, listed, text, clang):
         """Returns a text in which `__FILE__` is as -fmacro-prefix-map and -ffile-prefix-map want it.  Where it is, a second text says."""
-        maps = prefix_maps(self.front.asked.words)
-        if not any(re.search(b'^(?!# ).*"' + re.escape(in_literal(old)), text, re.MULTILINE) for _, old, _ in maps):
+        option, maps = self.front.asked.renames(text), self.front.asked.prefix_maps()
+        if option is None:
             return text
-        option = maps[0][0]
         if not clang and TAG not in text and all(PLAIN.fullmatch(word) for pair in maps for word in pair[1:]):
             marked = self.output("text", tagged(listed)).text
             lines = [marker[1] for marker in MARKER.finditer(marked) if not marker[1].startswith(TAG)]
@@ -261,21 +260,6 @@ def dated(dates, text):
         if value_of(name, word) is None and DATES[name][2].encode() in text:
             return "-D%s: a list can't have this %s, which the unit uses [fault 10]" % (word, DATES[name][0])
     return None
-
-
-def prefix_maps(words):
-    """Returns the options that change `__FILE__`, each with the beginnings of names that it replaces and puts there, the one that counts first."""
-    found = []
-    for option, sign, value in (word.partition("=") for word in words):
-        if sign and option in ("-fmacro-prefix-map", "-ffile-prefix-map"):
-            old, _, new = os.fsencode(value).rpartition(b"=")
-            found.insert(0, (option, old, new))
-    return found
-
-
-def in_literal(name):
-    """Returns a name as a string literal has it."""
-    return name.replace(b"\\", b"\\\\").replace(b'"', b'\\"')
 
 
 def tagged(listed):
