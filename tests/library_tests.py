@@ -30,7 +30,7 @@ SHARED = os.path.join(LIBRARY, "libcppunits.so")
 EXAMPLES = os.path.join(TOP, "examples", "library")
 with open(os.path.join(TOP, "examples", "units.json"), "rb") as EXAMPLE:
     UNITS = EXAMPLE.read()
-# the statuses of the program from which on it prints nothing, and those of the library
+# the status of the library for each of the program's
 STATUSES = {0: 0, 1: 1, 3: 2, 4: 3}
 MODE, NULL, SIZE = 4, 5, 6
 TOO_LARGE = 2 ** 63
