@@ -86,7 +86,9 @@ else
     fi
     count rt ci
     # `rt ci` proves a static library, and builds none
-    has cc "the build of the library" && count sh scripts/library.sh --checked
+    if [ "$failed" -eq 0 ] && has cc "the build of the library"; then
+        count sh scripts/library.sh --checked
+    fi
     CPPUNITS=$PWD/crates/cppunits/out/cppunits
 fi
 export CPPUNITS
