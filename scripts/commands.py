@@ -63,8 +63,9 @@ class Command:
     """Holds what a command asks of the preprocessor: directories, definitions in order, and files to include first.
 
     `compiler` is the word that names the compiler, after ccache and the like.  `before` has the words up to it, `words` those after it.
-    `asking` has the options that change what the compiler answers.  `spelled` has the names of the command's file and directories as it spells them.  `wanted` has what it says of its dependency
-    file.  `trigraphs` says whether gcc replaces trigraphs under the command's options."""
+    `asking` has the options that change what the compiler answers.  `spelled` has the names of the command's file and directories as it
+    spells them.  `wanted` has what it says of its dependency file.  `trigraphs` says whether gcc replaces trigraphs under the command's
+    options.  `undefined` has the names of -U, and `again` those that -D defines more than once in different ways."""
 
     def __init__(self, entry, report):
         self.directory = os.path.abspath(entry["directory"])
@@ -72,7 +73,7 @@ class Command:
         self.report, self.output, self.target = report, self.written("-o", entry.get("output")), None
         self.folders = {kind: [] for kind in FOLDERS.values()}
         self.definitions, self.named, self.includes, self.asking, self.spelled = {}, set(), [], [], {}
-        self.trigraphs, self.wanted = False, Wanted()
+        self.trigraphs, self.wanted, self.undefined, self.again = False, Wanted(), set(), []
         self.language = SUFFIXES.get(os.path.splitext(self.file)[1], "other")
         words = self.words_of(entry)
         self.spelled[self.file] = self.spelling(entry["file"], words)
@@ -136,6 +137,7 @@ class Command:
             self.define(word)
         elif option == "-U":
             self.forget(word)
+            self.undefined.add(word)
             if word in PREDEFINED:
                 self.report.add("%s: -U%s: this name stays defined" % (self.file, word))
         elif option == "-include":
@@ -167,8 +169,16 @@ class Command:
         if not is_text(word):
             self.report.add("%s: -D%s: no UTF-8 text" % (self.file, word))
             return
+        text = (word.replace("=", " ", 1) if "=" in word else word + " 1").rstrip(" ")
+        if self.definitions.get(name, text) != text:
+            self.again.append(name)
         self.forget(name)
-        self.definitions[name] = (word.replace("=", " ", 1) if "=" in word else word + " 1").rstrip(" ")
+        self.definitions[name] = text
+
+    def redefined(self, predefined):
+        """Returns the names that the command defines although they are defined otherwise; `predefined` has definitions by name."""
+        return self.again + [name for name, text in self.definitions.items()
+                             if name not in self.undefined and predefined.get(name, text).split() != text.split()]
 
     def forget(self, name):
         """Drops earlier definitions of a name, also those for all units."""

@@ -143,9 +143,19 @@ class Maker:
             raise Stopped("%s: fault %s of cppunits" % (source.name, number), lambda: self.tell(listed, unit))
         if reason := dated(notes.dates, unit.text):
             raise Stopped("%s: error: %s" % (source.name, reason))
+        self.check_definitions(command, builder)
         clang = "__clang__" in self.compilers.macros(command)
         text = self.mapped(source.name, listed, unit.text, clang)
         return Unit(source, command, for_clang(text) if clang else text, builder)
+
+    def check_definitions(self, command, builder):
+        """Says which names -D defines anew, as a compiler does; a build may ask so whether the compiler defines a name."""
+        words = self.front.asked.words
+        names = [] if {"-w", "-Wno-macro-redefined"} & set(words) else command.redefined(builder.additions.definitions(command))
+        if names and [word for word in words if word in ("-Werror", "-Wno-error")][-1:] == ["-Werror"]:
+            raise Stopped("\n".join('<command-line>: error: "%s" redefined [-Werror]' % name for name in names))
+        for name in names:
+            print('<command-line>: warning: "%s" redefined' % name, file=sys.stderr)
 
     def mapped(self, name, listed, text, clang):
         """Returns a text in which `__FILE__` is as -fmacro-prefix-map and -ffile-prefix-map want it.  Where it is, a second text says."""

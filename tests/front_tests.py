@@ -182,6 +182,17 @@ class Options(Fronts):
             well([self.compiler, *words.split(), "-I./inc", "-I" + self.path("w/more"), "-c", "./src/named.c", "-o", "theirs.o"], cwd=self.work)
             self.assertEqual(read(self.work, "ours.o"), read(self.work, "theirs.o"), words)
 
+    def test_names_that_are_defined_again(self):
+        """Defines names of the compiler and names of its own again: a warning, which is an error under -Werror."""
+        rows = [("-D__SIZEOF_INT128__=0", 1), ("-U__SIZEOF_INT128__ -D__SIZEOF_INT128__=0", 0), ("-D__CHAR_BIT__=8", 0), ("-DX=1 -DX=2", 1), ("-DX=1 -DX", 0),
+                ("-DX=1 -UX -DX=2", 0), ("-w -DX=1 -DX=2", 0)]
+        for words, count in rows:
+            for compiler in [FRONT], [self.compiler]:
+                done = run([*compiler, *words.split(), "-S", "-x", "c", "/dev/null", "-o", "x.s"], cwd=self.work, env=self.environment())
+                self.assertEqual((done.returncode, done.stderr.count(b" warning: ")), (0, count), (compiler, words))
+                done = run([*compiler, "-Werror", *words.split(), "-S", "-x", "c", "/dev/null", "-o", "x.s"], cwd=self.work, env=self.environment())
+                self.assertEqual((done.returncode, done.stderr.count(b" error: ")), (count, count), (compiler, words))
+
     def test_comments_and_macros_that_silence_warnings(self):
         write(self.work, {"f.c": "int f(int n)\n{\n    switch (n) {\n    case 1: n++;\n        /* fall through */\n    case 2: n++; // FALLTHRU\n"
                                  "    default: n++;\n    }\n    return n;\n}\n",
