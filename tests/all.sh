@@ -65,6 +65,8 @@ finish() {
         cat "$kept/$number" "$kept/$number.log" "$kept/$number.took"
         add "$kept/$number.log" "$(cat "$kept/$number.status")"
     done
+    begun=0
+    pids=
 }
 
 # Returns whether a program is there; otherwise records what is missed without it.
@@ -101,16 +103,12 @@ if has python3 "the tests of the scripts and documents"; then
     begin python3 tests/phase_tests.py
     begin python3 tests/list_tests.py
     begin python3 tests/build_tests.py
-    begin python3 tests/headers_tests.py
-    begin python3 tests/database_tests.py
     begin python3 tests/front_tests.py
     begin python3 tests/deps_tests.py
     begin python3 tests/scripts_tests.py
     begin python3 tests/faults_tests.py
-    begin python3 tests/library_tests.py
     begin python3 tests/slurm_tests.py
     begin python3 tests/projects_tests.py
-    begin python3 tests/builds_tests.py
     begin python3 tests/docs_examples.py
     begin python3 tests/docs_specification.py
     begin python3 tests/house_tests.py
@@ -123,6 +121,12 @@ if has python3 "the tests of the scripts and documents"; then
     if has cc "the runs with refused memory"; then
         begin python3 tests/refused_memory.py "$CPPUNITS"
     fi
+    finish
+    # those that run compilers for long or many threads come after the tests with time limits
+    begin python3 tests/headers_tests.py
+    begin python3 tests/database_tests.py
+    begin python3 tests/library_tests.py
+    begin python3 tests/builds_tests.py
     finish
 fi
 cat "$kept/missed"
