@@ -423,10 +423,13 @@ fn names_of_files_are_spelled_as_literals(rt: HostRuntime) -> Result<(), Fail> {
     let own = FileName::of_file(b"a\\\"b");
     let spelled = own.literal(alloc)?;
     assert!(&rt;
-        spelled.as_slice() == b"\"a\\\\\\\"b\"",
+        spelled.as_slice() == b"\"a\\\\\\\"b\"".as_slice(),
         "a name with quotes"
     );
     let plain = literal(alloc, b"a.c")?;
-    assert!(&rt; plain.as_slice() == b"\"a.c\"", "a name without quotes");
+    assert!(&rt;
+        plain.as_slice() == b"\"a.c\"".as_slice(),
+        "a name without quotes"
+    );
     Ok(())
 }
