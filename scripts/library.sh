@@ -6,7 +6,7 @@
 # The files go to DIRECTORY, without one to crates/cppunits_c/out/library.  cppunits.pc says that they are in include/ and lib/
 # of PREFIX, without one that they are where they are.  `rt lib` proves the crates below and the exports, and compiles
 # them.  With --checked, the crates below are taken as `rt ci` has proved and left them in crates/*/out, and only the exports
-# are proved again; if these don't fit together, since some are of other checks, `rt lib` follows.
+# are proved again.  That fails with status 3 if these don't fit together, since some are of other checks.
 set -e
 cd "$(dirname "$0")/.."
 top=$PWD
@@ -38,8 +38,11 @@ build_checked() {
 
 cd crates/cppunits_c
 mkdir -p out
-if [ ! "$checked" ] || ! build_checked; then
+if [ ! "$checked" ]; then
     rt lib
+elif ! build_checked; then
+    echo "library.sh: the crates in crates/*/out don't fit together: run it without --checked" >&2
+    exit 3
 fi
 proved=$PWD/out/libcppunits_c.a
 cd "$top/library"

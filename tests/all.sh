@@ -45,6 +45,17 @@ count() {
     add "$kept/log" "$(cat "$kept/status")"
 }
 
+# Builds the library over the crates that `rt ci` left.  If these are of several checks, as after a run that found some proofs
+# kept, its tests are missed.
+build_library() {
+    sh scripts/library.sh --checked
+    case $? in
+        0) passed=$((passed + 1)) ;;
+        3) echo "missed: the tests of the library: rt ci left crates of several checks" >> "$kept/missed" ;;
+        *) failed=$((failed + 1)) ;;
+    esac
+}
+
 # Starts a command that runs at the same time as the others that were started.
 begin() {
     begun=$((begun + 1))
@@ -89,7 +100,7 @@ else
     count rt ci
     # `rt ci` proves a static library, and builds none
     if [ "$failed" -eq 0 ] && has cc "the build of the library"; then
-        count sh scripts/library.sh --checked
+        build_library
     fi
     CPPUNITS=$PWD/crates/cppunits/out/cppunits
 fi
