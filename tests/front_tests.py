@@ -197,9 +197,13 @@ class Options(Fronts):
         write(self.work, {"f.c": "int f(int n)\n{\n    switch (n) {\n    case 1: n++;\n        /* fall through */\n    case 2: n++; // FALLTHRU\n"
                                  "    default: n++;\n    }\n    return n;\n}\n",
                           "m.c": "#define CHECK(p) ((p) != 0)\n#define SAME(a, b) ((a) == (b))\nint a[2];\n"
-                                 "int g(void) { if (SAME(a[0], a[1])) return 1; return CHECK(a); }\n"})
+                                 "int g(void) { if (SAME(a[0], a[1])) return 1; return CHECK(a); }\n",
+                          "body.c": "#define CASES case 1: n++; /* fall through */ case 2: n++;\nint f(int n) { switch (n) {\nCASES }\nreturn n; }\n"})
         self.made("-Wall", "-Wextra", "-Werror", "-c", "f.c")
         self.assertEqual(self.front("-Wall", "-Werror", "-c", "m.c").returncode, 0)
+        # a comment in the body of a macro stays dropped
+        done = self.front("-Wimplicit-fallthrough", "-c", "body.c")
+        self.assertEqual((done.returncode, done.stderr.count(b" warning: ")), (0, 1), done.stderr)
 
 
 class OptionsOfClang(Options):
