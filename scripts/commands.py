@@ -436,4 +436,4 @@ class Report:
     def same(self, asked, taken):
         """Reports a path where removing `..` by name gives another directory than the disk does: after a symbolic link they differ."""
         if ".." in asked and place(asked) != place(taken) and os.path.realpath(asked) != os.path.realpath(taken):
-            self.add("%s: behind a symbolic link; %s is taken" % (asked, taken))
+            self.add("%s: reached by a symbolic link; %s is taken" % (asked, taken))

@@ -17,8 +17,8 @@ COMMENT = b"/*FALLTHRU*/"
 
 
 @functools.lru_cache(maxsize=None)
-def lines_behind(path):
-    """Returns the lines of a file whose first token comes behind such a comment."""
+def lines_after_comments(path):
+    """Returns the lines of a file whose first token comes after such a comment."""
     data = content(path)
     return {data.count(b"\n", 0, BEHIND.match(data, found.end()).end()) + 1 for found in FALL.finditer(data)}
 
@@ -30,7 +30,7 @@ def with_comments(text, directory):
         found = MARKER.fullmatch(line)
         if found:
             name = os.path.join(os.fsencode(directory), re.sub(rb"\\(.)", rb"\1", found[2]))
-            lines = () if b"3" in found[3].split() else lines_behind(name)
+            lines = () if b"3" in found[3].split() else lines_after_comments(name)
             number = int(found[1]) - 1
         elif number in lines and line.strip() and line[:1] != b"#":
             body = line.lstrip(b" ")

@@ -52,7 +52,7 @@ class Notes:
     def same(self, asked, taken):
         """Notes a path where removing `..` by name gives another file than the disk does."""
         if ".." in asked and place(asked) != place(taken):
-            line = "%s: behind a symbolic link; %s would be taken" % (asked, taken)
+            line = "%s: reached by a symbolic link; %s would be taken" % (asked, taken)
             if os.path.isfile(taken):
                 self.files.append((taken, line))
             else:
@@ -175,7 +175,7 @@ class Maker:
         path, front = at(self.front.cwd, source.name), self.front
         special = is_special(source.name)
         if not special and place(source.name) != place(path):
-            raise Refused("%s: behind a symbolic link; %s would be taken" % (source.name, path))
+            raise Refused("%s: reached by a symbolic link; %s would be taken" % (source.name, path))
         if special:
             self.taken = True
             path = front.folder.write(os.path.basename(source.name) + ".c", special_content(source.name))
@@ -294,13 +294,13 @@ def untagged(text, maps):
 
 
 def parts(output):
-    """Returns the first line of a unit as `cppunits text` prints it, its text, and the lines behind that."""
+    """Returns the first line of a unit as `cppunits text` prints it, its text, and the lines after that."""
     head, end, rest = output.partition(b"\n")
     last = (b"\n" + rest).rfind(b"\n|")
     if last < 0:
         return head + end, b"", rest
-    behind = rest.index(b"\n", last) + 1
-    return head + end, rest[1:behind].replace(b"\n|", b"\n"), rest[behind:]
+    after = rest.index(b"\n", last) + 1
+    return head + end, rest[1:after].replace(b"\n|", b"\n"), rest[after:]
 
 
 def special_content(name):

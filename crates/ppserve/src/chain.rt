@@ -18,7 +18,8 @@ use ppshelf::MAX_ROWS;
 use pptext::Place;
 use ppunit::{ItemSlice, ItemSlices, Items, MarkSort};
 
-/// Returns how many files are open within a file after a mark, if so many were before it, or nothing if the file is left.
+/// Returns the number of files that are open within a file after a mark, given that number before it; `None` if the mark leaves
+/// the file.
 fn open_after_mark(depth: usize, sort: MarkSort) -> Option<usize>
     requires { depth + 1 < 2 ^ 64 }
     ensures after { result ≡ open_after_sort depth sort }
@@ -31,7 +32,8 @@ fn open_after_mark(depth: usize, sort: MarkSort) -> Option<usize>
     }
 }
 
-/// Returns how many files are open within a file after items, if so many were before them, or nothing if the file is left.
+/// Returns the number of files that are open within a file after items, given that number before them; `None` if they leave the
+/// file.
 #[tactic(auto, using(crate::proofs::IncludeChain::leaves_after))]
 fn open_after(depth: usize, items: ItemSlice) -> Option<usize>
     requires { depth + marks (slice_items items) < 2 ^ 64 }
